@@ -1,0 +1,10 @@
+pub mod Cells
+pub mod Images
+pub mod Decoded
+pub mod Steps
+pub mod Runs
+pub mod Transfers
+pub mod Buffers
+pub mod Performs
+pub mod Loads
+pub mod Acts

@@ -1,0 +1,5 @@
+pub mod Cells
+pub mod Powers
+pub mod Claimed
+pub mod Orders
+pub mod Quiet

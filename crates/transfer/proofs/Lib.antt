@@ -1,0 +1,2 @@
+pub mod Talks
+pub mod Cuts

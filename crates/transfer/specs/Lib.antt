@@ -1,0 +1,3 @@
+pub mod Tasks
+pub mod Talk
+pub mod Asks

@@ -1,0 +1,6 @@
+pub mod Replies
+pub mod Fitness
+pub mod Capacity
+pub mod Courses
+pub mod Rooms
+pub mod Attached
