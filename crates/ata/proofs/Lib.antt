@@ -1,0 +1,4 @@
+pub mod Joins
+pub mod Power
+pub mod Lit
+pub mod Ranges

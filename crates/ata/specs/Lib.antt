@@ -2,3 +2,4 @@ pub mod Machine
 pub mod Words
 pub mod Commands
 pub mod Exchange
+pub mod Shows

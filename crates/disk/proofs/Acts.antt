@@ -1,16 +1,14 @@
 -- What a step does once it has its power, by what the block holds.
-use mathlib.Core.Path.{_≡_, refl, sym, _∙_, ap}
-use mathlib.Core.List.{List, []}
-use mathlib.Core.Bool.{Bool, true, false}
+use mathlib.Core.Path.{_≡_, refl, _∙_, ap}
+use mathlib.Core.List.{[]}
+use mathlib.Core.Bool.{true, false}
 use Prim.Native.Nat.{ℕ}
 use native.Mathlib.Omega.{arith}
-use lib.ListN.{getD, set}
+use lib.ListN.{getD}
 use Rattle.ata.specs.declared.answer.End.the-variants.{Done, Stopped}
-use Rattle.ata.specs.Machine.{Content, unreadable, bytes, Machine, readStep, verifyStep, writeStep, act, ends, readEnd, readBytes, scored, one-error-more}
+use Rattle.ata.specs.Machine.{Content, unreadable, bytes, Machine, readStep, verifyStep, act, ends, readEnd, readBytes, scored, one-error-more}
 use Rattle.disk.specs.Cells.{readable}
-
-abbrev pub with-errors : Machine → ℕ → Machine
-with-errors m e = record { store = m .store; lit = m .lit; left = m .left; errors = e }
+use Rattle.disk.specs.Powers.{with-errors}
 
 pub read-done : (m : Machine) (b : ℕ) (k : Content) → getD (m .store .face) b unreadable ≡ k → readable k ≡ true → act (readStep b) (m .left) m ≡ ends Done (readBytes k) m
 read-done m b k e h =

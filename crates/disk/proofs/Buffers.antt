@@ -1,12 +1,12 @@
 -- A buffer whose front was filled, block by block.
-use mathlib.Core.Path.{_≡_, refl, sym, _∙_, ap}
+use mathlib.Core.Path.{_≡_, sym, _∙_, ap}
 use mathlib.Core.List.{List, _++_}
 use Prim.Native.Nat.{ℕ, _+_, _*_, _≤_}
 use native.Mathlib.Omega.{arith}
 use borrow.Rule.Slice.PartMut.{putMid}
 use lib.ListN.{length, take, drop}
 use Rattle.std.proofs.shelf.Lists.{take-append-drop, drop-drop, length-take-le}
-use Rattle.std.proofs.shelf.Parts.{take-putMid, drop-putMid}
+use Rattle.std.proofs.shelf.Parts.{drop-putMid}
 use Rattle.ata.specs.declared.answer.End.{End}
 use Rattle.ata.specs.Machine.{Machine, Outcome, ends}
 use Rattle.ata.specs.Commands.{over}

@@ -2,15 +2,15 @@
 use mathlib.Core.Path.{_≡_, refl, sym, _∙_, ap}
 use mathlib.Core.List.{List, [], _∷_, _++_}
 use mathlib.Core.Bool.{Bool, true, false, cond}
-use mathlib.Core.Logic.{_⊎_, inl, inr, _≢_}
-use Prim.Native.Nat.{ℕ, _+_, _-_, _*_, _<_, _≤_, min}
+use mathlib.Core.Logic.{_⊎_, inl, inr}
+use Prim.Native.Nat.{ℕ, _+_, _-_, _<_, _≤_, min}
 use native.Mathlib.Omega.{arith}
 use borrow.Rule.Slice.PartMut.{putMid}
 use lib.Dec.{eqb, leb}
 use lib.ListN.{length, getD, set, take, drop}
 use Rattle.std.proofs.shelf.Lists.{append-assoc, take-more-set, drop-drop, drop-set-lt, length-take, length-take-le, length-drop, length-append, same-lists, getD-take, getD-drop, getD-append-left, getD-append-right, getD-at, drop-at, take-at}
 use Rattle.std.proofs.shelf.Ways.{leb-tells}
-use Rattle.ata.specs.Machine.{Content, unreadable, bytes}
+use Rattle.ata.specs.Machine.{unreadable, bytes}
 use Rattle.ata.specs.Commands.{Sector}
 use Rattle.disk.specs.Cells.{marked, inside, cell-at, readable, with-cell}
 

@@ -1,12 +1,12 @@
 -- The words of a disk say what it claims.
-use mathlib.Core.Path.{_≡_, refl, sym, _∙_, ap}
+use mathlib.Core.Path.{_≡_, refl, _∙_, ap}
 use mathlib.Core.List.{List}
 use mathlib.Core.Bool.{Bool, true, false, cond, not, _&&_}
-use Prim.Native.Nat.{ℕ, _+_, _*_, _/_, _%_, _^_, _<_, _≤_}
+use Prim.Native.Nat.{ℕ, _+_, _*_, _^_, _<_}
 use native.Mathlib.Omega.{arith}
 use lib.Bits.{bitAnd}
 use lib.Dec.{eqb}
-use lib.ListN.{length, getD, set, replicate}
+use lib.ListN.{length, set}
 use Rattle.std.proofs.shelf.Lists.{set-getD}
 use Rattle.ata.specs.Words.{word, wide, cached, through, blocks-of, showing}
 use Rattle.disk.specs.declared.words.Claims.{Claims}

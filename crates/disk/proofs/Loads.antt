@@ -1,8 +1,8 @@
 -- Orders that come with no data of their kind.
-use mathlib.Core.Path.{_≡_, refl, sym, _∙_, ap}
+use mathlib.Core.Path.{_≡_, refl}
 use mathlib.Core.List.{List}
-use mathlib.Core.Bool.{Bool, true}
-use Prim.Native.Nat.{ℕ, _*_, _<_}
+use mathlib.Core.Bool.{Bool}
+use Prim.Native.Nat.{ℕ}
 use native.Mathlib.Omega.{arith}
 use Rattle.ata.specs.Commands.{nothing, sends, fetches, fetches-words}
 use Rattle.disk.specs.declared.order.Order.{Order}

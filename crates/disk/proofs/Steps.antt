@@ -1,18 +1,18 @@
 -- One step of a drive that puts no face on its medium by itself.
 use mathlib.Core.Path.{_≡_, refl, sym, _∙_, ap}
 use mathlib.Core.List.{List, [], _∷_}
-use mathlib.Core.Bool.{Bool, true, false, cond}
+use mathlib.Core.Bool.{true, false}
 use Prim.Native.Nat.{ℕ, zero, suc}
 use native.Mathlib.Omega.{arith}
 use Rattle.std.specs.declared.option.Option.{Option}
 use Rattle.std.specs.declared.option.Option.the-variants.{None, Some}
 use Rattle.ata.specs.declared.answer.End.the-variants.{Cut}
-use Rattle.ata.specs.Machine.{Content, Store, Machine, Step, settle, settled, powered, step, act, ends, darkened}
+use Rattle.ata.specs.Machine.{Content, Store, Machine, Step, settle, settled, powered, step, act, ends}
 use Rattle.disk.specs.declared.power.Power.{Power}
 use Rattle.disk.specs.Powers.{lasts, spent, machine-with}
 use Rattle.disk.specs.Quiet.{still}
 
-settle-still : (i : ℕ) (fs ds : List Content) → settle (λ _. false) i fs ds ≡ ds
+pub settle-still : (i : ℕ) (fs ds : List Content) → settle (λ _. false) i fs ds ≡ ds
 settle-still i [] ds = refl
 settle-still i (f ∷ fs) [] = refl
 settle-still i (f ∷ fs) (d ∷ ds) = ap (λ (r : List Content). d ∷ r) (settle-still (suc i) fs ds)

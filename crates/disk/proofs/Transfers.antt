@@ -1,12 +1,12 @@
 -- The steps of a transfer, by their places.
-use mathlib.Core.Path.{_≡_, refl, sym, _∙_, ap}
+use mathlib.Core.Path.{_≡_, refl, _∙_, ap}
 use mathlib.Core.List.{List, [], _∷_}
 use mathlib.Core.Bool.{Bool}
-use Prim.Native.Nat.{ℕ, zero, suc, _+_, _*_, _<_, _≤_}
+use Prim.Native.Nat.{ℕ, zero, suc, _+_, _*_, _<_}
 use native.Mathlib.Omega.{arith}
 use lib.ListN.{length, getD, take, drop}
 use Rattle.std.proofs.shelf.Lists.{drop-drop}
-use Rattle.ata.specs.Machine.{Content, unreadable, bytes, Step, readStep, verifyStep, writeStep, idleStep}
+use Rattle.ata.specs.Machine.{Content, unreadable, bytes, readStep, verifyStep, writeStep, idleStep}
 use Rattle.ata.specs.Commands.{reads, verifies, writes, blocks}
 
 pub length-reads : (b n : ℕ) → length (reads b n) ≡ n

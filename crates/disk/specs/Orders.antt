@@ -1,6 +1,6 @@
 -- What a disk takes a task file for.
 use mathlib.Core.Bool.{Bool, true, false}
-use Prim.Native.Nat.{ℕ, _*_, _<_}
+use Prim.Native.Nat.{_*_, _<_}
 use lib.ListN.{length}
 use Rattle.ata.specs.Commands.{Load, incoming, incoming-words, outgoing}
 use Rattle.ata.specs.Commands.{Order as Meant, identify, read, verify, write, flush, switch, idle, unknown}

@@ -48,6 +48,9 @@ restored p = cond (p .lit) p (power true None (p .errors) (p .orders))
 abbrev pub machine-with : Store → Power → Machine
 machine-with s p = record { store = s; lit = p .lit; left = p .left; errors = p .errors }
 
+abbrev pub with-errors : Machine → ℕ → Machine
+with-errors m e = record { store = m .store; lit = m .lit; left = m .left; errors = e }
+
 abbrev pub state-with : List ℕ → ℕ → Store → Power → State
 state-with words most s p = record { words = words; most = most; orders = p .orders; machine = machine-with s p }
 

@@ -8,8 +8,11 @@ ghost use lib.ListN.{length};
 ghost use Rattle.ata.specs.Machine.{readBytes};
 ghost use Rattle.disk.specs.Cells.{inside, cell-at, readable, with-cell};
 
+/// The bytes of a block's content.
+pub const BLOCK: usize = 512;
+
 /// The bytes of a cell.
-const CELL: usize = 513;
+pub const CELL: usize = 513;
 
 /// Whether the cell at `at` lies wholly inside an image of `size` bytes.
 fn lies_inside(size: usize, at: usize) -> bool
@@ -33,7 +36,7 @@ pub fn read_cell(image: &[u8], at: usize, out: &mut [u8]) -> bool
     if !lies_inside(image.len(), at) {
         return false;
     }
-    if out.len() != 512 {
+    if out.len() != BLOCK {
         return false;
     }
     if image[at] != 0 {
@@ -51,7 +54,7 @@ pub fn write_cell(image: &mut [u8], at: usize, data: &[u8]) -> bool
     if !lies_inside(image.len(), at) {
         return false;
     }
-    if data.len() != 512 {
+    if data.len() != BLOCK {
         return false;
     }
     image[at] = 0;

@@ -2,6 +2,7 @@
 
 ghost use mathlib.Core.Path.{_≡_};
 ghost use Rattle.disk.specs.Powers.{full, lasts, spent, order-counted, error-counted, cut-after, restored, looked-at, Admits};
+use crate::answer::ABORTED;
 use ata::Answer;
 
 /// A lit disk has power for as many steps as are left, or for ever where none is said.
@@ -91,11 +92,7 @@ impl Power {
         ensures counted { λ _. ⌜ now (self .exit) ≡ looked-at most count short (now (self .entry)) ⌝ }
     {
         if count > most || short {
-            return Some(Answer {
-                status: 0x41,
-                error: 0x04,
-                block: 0,
-            });
+            return Some(ABORTED);
         }
         self.count_order();
         if block > size || count as u64 > size - block {

@@ -16,7 +16,7 @@ pub struct Claims {
 
 impl Claims {
     /// The write through the cache is a 48-bit command.
-    pub fn writes_through(&self) -> bool
+    pub(crate) fn writes_through(&self) -> bool
         ensures { λ r. ⌜ r ≡ (now (self .entry) .wide && now (self .entry) .through) ⌝ }
     {
         self.wide && self.through

@@ -2,17 +2,16 @@
 use mathlib.Core.Path.{_≡_, refl, sym, _∙_, ap}
 use mathlib.Core.List.{List, [], _∷_}
 use mathlib.Core.Bool.{Bool, true, false, cond}
-use Prim.Native.Nat.{ℕ, _<_, _≤_}
+use Prim.Native.Nat.{ℕ, _≤_}
 use native.Mathlib.Omega.{arith}
 use lib.Dec.{ltb}
 use lib.ListN.{length}
 use Rattle.std.proofs.shelf.Ways.{tells}
 use Rattle.std.specs.declared.option.Option.the-variants.{None}
 use Rattle.ata.specs.declared.answer.End.{End}
-use Rattle.ata.specs.Machine.{Machine, Step, idleStep, Outcome, step, steps, ends}
-use Rattle.ata.specs.Commands.{State, Gave, gives, answered, ran, over, aborted, told, with-machine, ordered, one-order-more, returned, lit-again}
+use Rattle.ata.specs.Machine.{Step, idleStep, Outcome, step, steps, ends}
+use Rattle.ata.specs.Commands.{gives, answered, ran, aborted, told, with-machine, one-order-more, returned, lit-again}
 use Rattle.ata.specs.Commands.{tells as telling}
-use Rattle.ata.specs.Words.{cached}
 use Rattle.disk.specs.declared.power.Power.{Power}
 use Rattle.disk.specs.Claimed.{words-for}
 use Rattle.disk.specs.Powers.{power, order-counted, restored, machine-with}

@@ -2,7 +2,7 @@
 use mathlib.Core.Path.{_≡_, refl, sym, _∙_, ap}
 use mathlib.Core.List.{List, []}
 use mathlib.Core.Bool.{Bool, true, false, cond, _&&_}
-use Prim.Native.Nat.{ℕ, _+_, _*_, _/_, _<_, _≤_, min}
+use Prim.Native.Nat.{ℕ, _+_, _*_, _<_, _≤_}
 use native.Mathlib.Omega.{arith}
 use lib.Dec.{eqb}
 use lib.ListN.{length, getD, set}
@@ -10,7 +10,7 @@ use Rattle.std.proofs.shelf.Ways.{tells}
 use Rattle.ata.specs.declared.answer.End.the-variants.{Done}
 use Rattle.ata.specs.Machine.{Content, unreadable, bytes, writeStep, act, ends}
 use Rattle.disk.specs.declared.power.Power.{Power}
-use Rattle.disk.specs.Cells.{inside, cell-at, readable, with-cell, contents}
+use Rattle.disk.specs.Cells.{inside, cell-at, with-cell, contents}
 use Rattle.disk.specs.Powers.{machine-with}
 use Rattle.disk.proofs.Cells.{inside-true}
 use Rattle.disk.proofs.Images.{getD-contents, contents-write}

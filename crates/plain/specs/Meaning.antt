@@ -1,7 +1,7 @@
 -- What the plain disk is as a drive: its medium is what a read gives, and it claims nothing.
 use mathlib.Core.Path.{_≡_}
 use mathlib.Core.List.{List, []}
-use mathlib.Core.Bool.{Bool, true, false}
+use mathlib.Core.Bool.{false}
 use Prim.Native.Nat.{ℕ, _/_, min}
 use lib.ListN.{length}
 use Rattle.std.specs.Of.Vec.{vec-items}

@@ -14,6 +14,8 @@ use crate::plain_disk::PlainDisk;
 use ata::Answer;
 use ata::End;
 use ata::TaskFile;
+use disk::ABORTED;
+use disk::BLOCK;
 use disk::Claims;
 use disk::Order;
 use disk::answer_for;
@@ -23,18 +25,8 @@ use disk::order_of;
 /// The most blocks that one command may move.
 pub(crate) const MOST: u32 = 256;
 
-/// The answer to what the disk does not take.
-fn aborted() -> Answer
-    ensures { λ r. ⌜ r ≡ record { status = 65; error = 4; block = 0 } ⌝ }
-{
-    Answer {
-        status: 0x41,
-        error: 0x04,
-        block: 0,
-    }
-}
-
 impl PlainDisk {
+    /// The plain disk claims its blocks and nothing else.
     fn claims(&self) -> Claims
         ensures { λ r. ⌜ r ≡ claims-of (now (self .entry) .blocks) ⌝ }
     {
@@ -63,26 +55,29 @@ impl PlainDisk {
         answer_for(End::Cut)
     }
 
+    /// Reads blocks into the front of `into`.
     pub(crate) fn read(&mut self, block: u64, count: u32, into: &mut [u8]) -> Answer
         ensures { λ r. ⌜ gives r (state-of (now (self .exit))) (now (into .exit)) ≡ obeys quiet (state-of (now (self .entry))) block (fetches (now (into .entry))) (Reading count) ⌝ }
     {
-        let short = into.len() < 512 * count as usize;
+        let short = into.len() < BLOCK * count as usize;
         if let Some(answer) = self.power.admit(self.blocks, MOST, block, count, short) {
             return answer;
         }
         answer_for(self.run_reads(block, count, into))
     }
 
+    /// Writes blocks from the front of `from`.
     pub(crate) fn write(&mut self, block: u64, count: u32, from: &[u8]) -> Answer
         ensures { λ r. ⌜ ((t : Bool) → gives r (state-of (now (self .exit))) [] ≡ obeys quiet (state-of (now (self .entry))) block (sends (now (from .entry))) (Writing t count)) ⌝ }
     {
-        let short = from.len() < 512 * count as usize;
+        let short = from.len() < BLOCK * count as usize;
         if let Some(answer) = self.power.admit(self.blocks, MOST, block, count, short) {
             return answer;
         }
         answer_for(self.run_writes(block, count, from))
     }
 
+    /// Looks whether blocks can be read.
     fn verify(&mut self, block: u64, count: u32) -> Answer
         ensures { λ r. ⌜ ((l : Load) → gives r (state-of (now (self .exit))) (room l) ≡ obeys quiet (state-of (now (self .entry))) block l (Verifying count)) ⌝ }
     {
@@ -101,11 +96,12 @@ impl PlainDisk {
         answer_for(self.idle_step())
     }
 
+    /// Gives the words of the disk.
     pub(crate) fn identify(&mut self, into: &mut [u16]) -> Answer
         ensures { λ r. ⌜ ((b : ℕ) → gives r (state-of (now (self .exit))) (now (into .exit)) ≡ obeys quiet (state-of (now (self .entry))) b (fetches-words (now (into .entry))) Identifying) ⌝ }
     {
         if into.len() < 256 {
-            return aborted();
+            return ABORTED;
         }
         self.power.count_order();
         if !self.power.tick() {
@@ -123,7 +119,7 @@ impl PlainDisk {
         match order {
             Order::Verify(count) => self.verify(block, count),
             Order::Flush | Order::Idle => self.pause(),
-            _ => aborted(),
+            _ => ABORTED,
         }
     }
 }

@@ -23,7 +23,7 @@ pub impl Drive for PlainDisk as PlainDrive {
     }
 
     fn no_data(&mut self, task: TaskFile) -> Answer {
-        if !self.power.lit {
+        if !self.is_lit() {
             return self.ignore();
         }
         let order = self.order(task);
@@ -31,7 +31,7 @@ pub impl Drive for PlainDisk as PlainDrive {
     }
 
     fn data_out(&mut self, task: TaskFile, from: &[u8]) -> Answer {
-        if !self.power.lit {
+        if !self.is_lit() {
             return self.ignore();
         }
         match self.order(task) {
@@ -41,7 +41,7 @@ pub impl Drive for PlainDisk as PlainDrive {
     }
 
     fn data_in(&mut self, task: TaskFile, into: &mut [u8]) -> Answer {
-        if !self.power.lit {
+        if !self.is_lit() {
             return self.ignore();
         }
         match self.order(task) {
@@ -51,7 +51,7 @@ pub impl Drive for PlainDisk as PlainDrive {
     }
 
     fn words_in(&mut self, task: TaskFile, into: &mut [u16]) -> Answer {
-        if !self.power.lit {
+        if !self.is_lit() {
             return self.ignore();
         }
         match self.order(task) {

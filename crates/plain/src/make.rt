@@ -5,10 +5,8 @@ ghost use Rattle.std.specs.Of.Vec.{vec-items};
 ghost use Rattle.ata.specs.Commands.{size};
 ghost use Rattle.plain.specs.Meaning.{fresh, image-of, state-of};
 use crate::plain_disk::PlainDisk;
+use disk::CELL;
 use disk::Power;
-
-/// The bytes of a cell.
-const CELL: u64 = 513;
 
 /// The most blocks that 28 bits can count.
 const LARGEST: u64 = 268_435_455;
@@ -19,7 +17,7 @@ impl PlainDisk {
         ensures state { λ r. ⌜ state-of r ≡ fresh (vec-items image) ⌝ }
         ensures holds { λ r. ⌜ image-of r ≡ vec-items image ⌝ }
     {
-        let blocks = (image.len() as u64 / CELL).min(LARGEST);
+        let blocks = ((image.len() / CELL) as u64).min(LARGEST);
         PlainDisk {
             image,
             blocks,

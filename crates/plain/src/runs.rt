@@ -12,6 +12,7 @@ ghost use Rattle.disk.specs.Quiet.{quiet, Filled};
 ghost use Rattle.plain.specs.Meaning.{machine-of, Kept};
 use crate::plain_disk::PlainDisk;
 use ata::End;
+use disk::BLOCK;
 
 impl PlainDisk {
     /// Reads `count` blocks from `block` on into the front of `into`.
@@ -21,8 +22,8 @@ impl PlainDisk {
         ensures kept { λ _. ⌜ Kept (now (self .entry)) (now (self .exit)) ⌝ }
     {
         for i in 0..count {
-            let at = 512 * i as usize;
-            match self.read_step(block + i as u64, &mut into[at..at + 512]) {
+            let at = BLOCK * i as usize;
+            match self.read_step(block + i as u64, &mut into[at..at + BLOCK]) {
                 End::Done => {}
                 stop => return stop,
             }
@@ -39,7 +40,7 @@ impl PlainDisk {
         for i in 0..count {
             match self.verify_step(block + i as u64) {
                 End::Done => {}
-                stop => return stop,
+                end => return end,
             }
         }
         End::Done
@@ -52,10 +53,10 @@ impl PlainDisk {
         ensures kept { λ _. ⌜ Kept (now (self .entry)) (now (self .exit)) ⌝ }
     {
         for i in 0..count {
-            let at = 512 * i as usize;
-            match self.write_step(block + i as u64, &from[at..at + 512]) {
+            let at = BLOCK * i as usize;
+            match self.write_step(block + i as u64, &from[at..at + BLOCK]) {
                 End::Done => {}
-                stop => return stop,
+                cut => return cut,
             }
         }
         End::Done

@@ -5,17 +5,30 @@ ghost use mathlib.Core.Bool.{Bool};
 ghost use mathlib.Core.List.{[]};
 ghost use Prim.Native.Nat.{_<_};
 ghost use lib.ListN.{length};
-ghost use Rattle.ata.specs.Machine.{step, ends, readStep, verifyStep, writeStep, flushStep, idleStep};
+ghost use Rattle.ata.specs.Machine.{step, ends, one-error-more, readStep, verifyStep, writeStep, flushStep, idleStep};
 ghost use Rattle.ata.specs.Machine.{bytes as holding};
+ghost use Rattle.ata.specs.declared.answer.End.the-variants.{Stopped};
+ghost use Rattle.disk.specs.Powers.{with-errors};
 ghost use Rattle.disk.specs.Quiet.{still};
 ghost use Rattle.plain.specs.Meaning.{machine-of, Kept, put, Untouched};
 use crate::plain_disk::PlainDisk;
 use ata::End;
+use disk::CELL;
 use disk::cell_readable;
 use disk::read_cell;
 use disk::write_cell;
 
 impl PlainDisk {
+    /// Counts an unreadable block, which ends its command.
+    fn met_unreadable(&mut self, block: u64) -> End
+        ensures stops { λ r. ⌜ r ≡ Stopped block ⌝ }
+        ensures counted { λ _. ⌜ machine-of (now (self .exit)) ≡ with-errors (machine-of (now (self .entry))) (one-error-more (now (self .entry) .power .errors)) ⌝ }
+        ensures kept { λ _. ⌜ Kept (now (self .entry)) (now (self .exit)) ⌝ }
+    {
+        self.power.count_error();
+        End::Stopped(block)
+    }
+
     /// Reads a block into the 512 bytes of `into`.
     pub(crate) fn read_step(&mut self, block: u64, into: &mut [u8]) -> End
         requires { ⌜ block < now self .blocks ⌝ ∗ ⌜ length (now into) ≡ 512 ⌝ }
@@ -26,11 +39,10 @@ impl PlainDisk {
         if !self.power.tick() {
             return End::Cut;
         }
-        if read_cell(self.image.as_slice(), 513 * block as usize, into) {
+        if read_cell(self.image.as_slice(), CELL * block as usize, into) {
             End::Done
         } else {
-            self.power.count_error();
-            End::Stopped(block)
+            self.met_unreadable(block)
         }
     }
 
@@ -43,11 +55,10 @@ impl PlainDisk {
         if !self.power.tick() {
             return End::Cut;
         }
-        if cell_readable(self.image.as_slice(), 513 * block as usize) {
+        if cell_readable(self.image.as_slice(), CELL * block as usize) {
             End::Done
         } else {
-            self.power.count_error();
-            End::Stopped(block)
+            self.met_unreadable(block)
         }
     }
 
@@ -60,7 +71,7 @@ impl PlainDisk {
         if !self.power.tick() {
             return End::Cut;
         }
-        write_cell(self.image.as_mut_slice(), 513 * block as usize, data);
+        write_cell(self.image.as_mut_slice(), CELL * block as usize, data);
         End::Done
     }
 

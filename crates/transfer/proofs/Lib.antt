@@ -1,2 +1,9 @@
 pub mod Talks
 pub mod Cuts
+pub mod Buffer
+pub mod Groups
+pub mod Plans
+pub mod Performs
+pub mod Comings
+pub mod Transfers
+pub mod Stepped

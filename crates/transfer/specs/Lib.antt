@@ -1,3 +1,4 @@
 pub mod Tasks
 pub mod Talk
 pub mod Asks
+pub mod Steps

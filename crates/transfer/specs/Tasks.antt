@@ -8,6 +8,11 @@ use Rattle.ata.specs.declared.task.Feature.the-variants.{Absent}
 use Rattle.transfer.specs.declared.tasks.Width.{Width}
 use Rattle.transfer.specs.declared.tasks.Width.the-variants.{Bits28, Bits48}
 
+-- 48-bit commands are used where they are claimed
+abbrev pub width-of : Bool → Width
+width-of true = Bits48
+width-of false = Bits28
+
 -- how many blocks the count of a command can name
 abbrev pub limit : Width → ℕ
 limit Bits28 = 256

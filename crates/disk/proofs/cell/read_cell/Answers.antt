@@ -1,12 +1,11 @@
 use mathlib.Core.Path.{_≡_, refl, sym, _∙_, ap}
-use mathlib.Core.Bool.{Bool, true, false, _&&_}
+use mathlib.Core.Bool.{true, false}
 use Prim.Native.Nat.{ℕ, _+_, _-_}
 use native.Mathlib.Omega.{arith}
 use lib.Dec.{eqb}
 use lib.ListN.{length, getD, take, drop}
 use Rattle.std.proofs.shelf.Ways.{tells}
-use Rattle.ata.specs.Machine.{Content, readBytes}
-use Rattle.disk.specs.Cells.{readable, cell-at}
+use Rattle.ata.specs.Machine.{readBytes}
 use Rattle.disk.proofs.Cells.{readable-inside, readable-outside, cell-inside}
 use Rattle.disk.proofs.cell.read_cell.Needs as need
 

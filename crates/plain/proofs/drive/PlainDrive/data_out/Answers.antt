@@ -1,4 +1,4 @@
-use mathlib.Core.Path.{_∙_}
+use mathlib.Core.Path.{sym, _∙_}
 use mathlib.Core.List.{[]}
 use Rattle.ata.specs.Commands.{gives, sends, write}
 use Rattle.disk.specs.Orders.{meant}
@@ -8,21 +8,21 @@ use Rattle.disk.proofs.Performs.{perform-dark, perform-lit}
 use Rattle.plain.specs.Meaning.{state-of}
 use Rattle.plain.proofs.drive.PlainDrive.data_out.Needs as need
 
-pub returns-then-not-self : need.returns-then-not-self
-returns-then-not-self c =
-    (quiet, c .ignore .ensures [] ∙ perform-dark quiet (state-of (c .args .self .now)) (c .args .task) (sends (c .args .from .now)) (c .if-not-self .taken))
+pub returns-then-not-is-lit : need.returns-then-not-is-lit
+returns-then-not-is-lit c =
+    (quiet, c .ignore .ensures [] ∙ perform-dark quiet (state-of (c .args .self .now)) (c .args .task) (sends (c .args .from .now)) (sym (c .is-lit .ensures) ∙ c .if-not-is-lit .taken))
 
 pub returns-in-Write : need.returns-in-Write
 returns-in-Write c = (
   quiet,
   perform-lit quiet (state-of (c .args .self .now)) (c .args .task) (sends (c .args .from .now)) (write (c .in-Write .through) (c .in-Write .count))
-      (gives (c .write .result) (state-of (c .write .last .self)) []) (c .if-not-self .left) (c .in-Write .ensures tt .is) (c .write .ensures (c .in-Write .through)),
+      (gives (c .write .result) (state-of (c .write .last .self)) []) (sym (c .is-lit .ensures) ∙ c .if-not-is-lit .left) (c .in-Write .ensures tt .is) (c .write .ensures (c .in-Write .through)),
 )
 
 pub returns-in-rest : need.returns-in-rest
 returns-in-rest c = (
   quiet,
   perform-lit quiet (state-of (c .args .self .now)) (c .args .task) (sends (c .args .from .now)) (meant (c .order .result))
-      (gives (c .without-data .result) (state-of (c .without-data .last .self)) []) (c .if-not-self .left) (c .order .ensures .is)
+      (gives (c .without-data .result) (state-of (c .without-data .last .self)) []) (sym (c .is-lit .ensures) ∙ c .if-not-is-lit .left) (c .order .ensures .is)
       (c .without-data .ensures (sends (c .args .from .now)) (bare-sends (c .args .from .now) (c .order .result) (c .order .ensures .some) (c .in-rest .not-Write))),
 )

@@ -1,9 +1,8 @@
 use mathlib.Core.Path.{_≡_, refl, sym, _∙_, ap}
-use mathlib.Core.Bool.{Bool, true, false, cond}
-use Prim.Native.Nat.{ℕ, _≤_}
+use Prim.Native.Nat.{ℕ}
 use native.Mathlib.Omega.{arith}
 use Rattle.ata.specs.Words.{count-limit}
-use Rattle.disk.proofs.Decoded.{words-long, wide-for, cached-for, through-for, cache-off-for, blocks-for}
+use Rattle.disk.proofs.Decoded.{words-long, wide-for, through-for, cache-off-for, blocks-for}
 use Rattle.disk.proofs.Images.{length-contents, contents-sectors}
 use Rattle.plain.specs.Meaning.{claims-of, image-of}
 use Rattle.plain.proofs.drive.PlainDrive.the-impl.Needs as need

@@ -6,7 +6,6 @@ use Rattle.ata.specs.declared.answer.Answer.{Answer}
 use Rattle.ata.specs.declared.answer.End.the-variants.{Done, Cut}
 use Rattle.ata.specs.Machine.{idleStep}
 use Rattle.ata.specs.Commands.{gives, over}
-use Rattle.disk.specs.declared.words.Claims.{Claims}
 use Rattle.disk.specs.Claimed.{words-for}
 use Rattle.disk.proofs.Decoded.{words-long}
 use Rattle.disk.proofs.Steps.{step-lasts, step-fails, spent-orders}

@@ -1,19 +1,19 @@
-use mathlib.Core.Path.{_≡_, refl, sym, _∙_, ap}
-use mathlib.Core.List.{List, []}
-use mathlib.Core.Bool.{Bool, true, cond, _&&_}
+use mathlib.Core.Path.{_≡_, refl, sym, _∙_, ap, subst}
+use mathlib.Core.List.{List}
+use mathlib.Core.Bool.{Bool, true, cond}
 use Prim.Native.Nat.{ℕ, _*_}
 use native.Mathlib.Omega.{arith}
 use lib.Dec.{eqb}
 use lib.ListN.{length}
 use Rattle.std.proofs.shelf.Ways.{tells}
-use Rattle.ata.specs.declared.answer.End.the-variants.{Done, Stopped}
+use Rattle.ata.specs.declared.answer.End.{End}
+use Rattle.ata.specs.declared.answer.End.the-variants.{Done}
 use Rattle.ata.specs.Machine.{readStep, readBytes, ends}
-use Rattle.disk.specs.declared.power.Power.{Power}
 use Rattle.disk.specs.Cells.{cell-at, readable}
 use Rattle.disk.specs.Powers.{machine-with}
 use Rattle.disk.proofs.Acts.{read-done, read-stopped}
 use Rattle.disk.proofs.Steps.{step-lasts, step-fails, spent-orders}
-use Rattle.plain.specs.Meaning.{store-of, image-of}
+use Rattle.plain.specs.Meaning.{store-of, image-of, put, Untouched}
 use Rattle.plain.proofs.Blocks.{face-at, first-true, first-false}
 use Rattle.plain.proofs.plain_disk.PlainDisk.read_step.Needs as need
 
@@ -58,7 +58,7 @@ returns-else-read-cell c =
       stepped =
           step-lasts s (d .power) q (readStep b) (sym (c .tick .ensures .had) ∙ c .if-not-tick .left) (c .tick .ensures .after)
           ∙ read-stopped (machine-with s q) b k (face-at (d .blocks) (image-of d) slice b (c .as-slice .ensures .value) (omega arith)) cannot
-          ∙ ap (λ (p : Power). ends (Stopped b) [] (machine-with s p)) (sym (c .count-error .ensures));
-      untouched = c .read-cell .ensures .content ∙ ap (λ (v : Bool). cond v (readBytes k) (c .args .into .now)) (c .if-read-cell .left);
-      kept = record { blocks = refl; orders = ap (λ (p : Power). p .orders) (c .count-error .ensures) ∙ spent-orders (d .power) q (c .tick .ensures .after) };
+          ∙ (λ i. ends (sym (c .met-unreadable .ensures .stops) i) (put (sym (c .met-unreadable .ensures .stops) i) (c .read-cell .last .out)) (sym (c .met-unreadable .ensures .counted) i));
+      untouched = subst (λ (z : End). Untouched z (c .args .into .now) (c .read-cell .last .out)) (sym (c .met-unreadable .ensures .stops)) (c .read-cell .ensures .content ∙ ap (λ (v : Bool). cond v (readBytes k) (c .args .into .now)) (c .if-read-cell .left));
+      kept = record { blocks = c .met-unreadable .ensures .kept .blocks; orders = c .met-unreadable .ensures .kept .orders ∙ spent-orders (d .power) q (c .tick .ensures .after) };
     }

@@ -1,10 +1,9 @@
 use mathlib.Core.Path.{_≡_, _∙_, ap}
-use mathlib.Core.Bool.{Bool}
-use mathlib.Core.List.{List, []}
+use mathlib.Core.List.{[]}
 use Prim.Native.Nat.{ℕ, _+_, _-_, _*_}
 use native.Mathlib.Omega.{arith}
 use lib.ListN.{take, drop}
-use Rattle.ata.specs.Machine.{writeStep, bytes, step, ends}
+use Rattle.ata.specs.Machine.{writeStep, bytes, step}
 use Rattle.ata.specs.Commands.{writes, blocks}
 use Rattle.disk.specs.Quiet.{still}
 use Rattle.disk.proofs.Runs.{reached-none, reached-more, reached-end, reached-all}

@@ -1,10 +1,8 @@
-use mathlib.Core.Path.{_≡_, refl, sym, _∙_, ap}
+use mathlib.Core.Path.{refl, sym, _∙_}
 use mathlib.Core.List.{[]}
 use Prim.Native.Nat.{_*_}
 use native.Mathlib.Omega.{arith}
-use Rattle.ata.specs.declared.answer.End.the-variants.{Stopped}
 use Rattle.ata.specs.Machine.{verifyStep, ends}
-use Rattle.disk.specs.declared.power.Power.{Power}
 use Rattle.disk.specs.Cells.{cell-at}
 use Rattle.disk.specs.Powers.{machine-with}
 use Rattle.disk.proofs.Acts.{verify-done, verify-stopped}
@@ -46,6 +44,6 @@ returns-else-cell-readable c =
       stepped =
           step-lasts s (d .power) q (verifyStep b) (sym (c .tick .ensures .had) ∙ c .if-not-tick .left) (c .tick .ensures .after)
           ∙ verify-stopped (machine-with s q) b (cell-at slice (513 * b)) (face-at (d .blocks) (image-of d) slice b (c .as-slice .ensures .value) (omega arith)) (sym (c .cell-readable .ensures) ∙ c .if-cell-readable .left)
-          ∙ ap (λ (p : Power). ends (Stopped b) [] (machine-with s p)) (sym (c .count-error .ensures));
-      kept = record { blocks = refl; orders = ap (λ (p : Power). p .orders) (c .count-error .ensures) ∙ spent-orders (d .power) q (c .tick .ensures .after) };
+          ∙ (λ i. ends (sym (c .met-unreadable .ensures .stops) i) [] (sym (c .met-unreadable .ensures .counted) i));
+      kept = record { blocks = c .met-unreadable .ensures .kept .blocks; orders = c .met-unreadable .ensures .kept .orders ∙ spent-orders (d .power) q (c .tick .ensures .after) };
     }
