@@ -45,25 +45,32 @@ went o (x ∷ xs) m = ⊎-elim (alive (λ n. went (λ k. o (suc k)) xs n)) dies 
   where
     Went : Look → Outcome → Type 0
     Went l r = Live m l r ⊎ Dead m r
+
     rest : Machine → Outcome
     rest n = steps (λ k. o (suc k)) xs n
+
     later : (g : List ℕ) (n : Machine) (l : Look) → Live m l (ends Done g n) → Live n (looks xs (n .store .face)) (rest n) ⊎ Dead n (rest n) → Went (next-look Done g (n .store .face) (λ h. looks xs h)) (next Done g n rest)
     later g n l a (inl b) = inl (record { looked = ap (λ (k : Look). record { end = k .end; given = g ++ k .given; face = k .face }) (b .looked); lit = b .lit ∙ a .lit; left = λ h. b .left (a .left h); errors = b .errors ∙ ap (λ e. scored (rest n .end) e) (a .errors) })
     later g n l a (inr b) = inr (record { end = b .end; lit = b .lit; level = b .level; left = λ h. b .left (a .left h); errors = b .errors ∙ a .errors })
+
     Rest : Type 0
     Rest = (n : Machine) → Live n (looks xs (n .store .face)) (rest n) ⊎ Dead n (rest n)
+
     by : Rest → (e : End) (g : List ℕ) (n : Machine) → Live m (record { end = e; given = g; face = n .store .face }) (ends e g n) → Went (next-look e g (n .store .face) (λ h. looks xs h)) (next e g n rest)
     by ih Done g n l = later g n _ l (ih n)
     by ih (Stopped b) g n l = inl l
     by ih Cut g n l = inl l
+
     alive : Rest → Live m (look x (m .store .face)) (step (o 0) x m) → Went (looks (x ∷ xs) (m .store .face)) (steps o (x ∷ xs) m)
     alive ih l =
         let r : Outcome = step (o 0) x m in
         subst (λ (k : Look). Went (next-look (k .end) (k .given) (k .face) (λ h. looks xs h)) (steps o (x ∷ xs) m)) (l .looked)
         (by ih (r .end) (r .given) (r .machine) (record { looked = refl; lit = l .lit; left = l .left; errors = l .errors }))
+
     gone : (e : End) (g : List ℕ) (n : Machine) → e ≡ Cut → Dead m (ends e g n) → Went (looks (x ∷ xs) (m .store .face)) (next e g n rest)
     gone Done g n e d = absurd (let z : _≡_ {A = ℕ} 0 1 = cc in omega arith)
     gone (Stopped b) g n e d = inr d
     gone Cut g n e d = inr d
+
     dies : Dead m (step (o 0) x m) → Went (looks (x ∷ xs) (m .store .face)) (steps o (x ∷ xs) m)
     dies d = gone (step (o 0) x m .end) (step (o 0) x m .given) (step (o 0) x m .machine) (d .end) d

@@ -83,7 +83,7 @@ read-one unreadable b m n s f =
       first = λ x e. (let i = stop-is b x e in omega arith);
       last = λ x e. (let i = stop-is b x e in omega arith);
       before = λ x e. (let i = stop-is b x e in omega arith);
-      faces = no-stop
+      faces = no-stop;
     }
 
 step-one : (c : Choice) (b : ℕ) (m : Machine) → Sectors (m .store .face) → Read b 1 m (step c (readStep b) m .end) (step c (readStep b) m .given) (step c (readStep b) m .machine)
@@ -119,7 +119,7 @@ reads-read (suc n) b o m s =
           first = λ x e. (let y = r .first x e in omega arith);
           last = λ x e. (let y = r .last x e in omega arith);
           before = λ x e. (let y = r .before x e in let z = r .first x e in omega arith);
-          faces = λ x. r .faces x ∙ f
+          faces = λ x. r .faces x ∙ f;
         }
     by (Stopped z) g k one more =
         let w = one .few in
@@ -129,7 +129,7 @@ reads-read (suc n) b o m s =
           first = one .first;
           last = λ x e. (let y = one .last x e in omega arith);
           before = one .before;
-          faces = no-stop
+          faces = no-stop;
         }
     by Cut g k one more =
         let w = one .few in
@@ -149,6 +149,7 @@ silent-one c x m h = by (m .left)
   where
     looked : (f : List Content) (k : ℕ) → look x f .end ≡ Stopped k → ⊥
     looked f k e = done-stop k (sym (h f .0) ∙ e)
+
     by : (l : Option ℕ) → Gives-nothing (powered l x (settled c m) .end) (powered l x (settled c m) .given)
     by None = record { none = h (m .store .face) .1; never = looked (m .store .face) }
     by (Some zero) = record { none = refl; never = λ k e. cut-stop k e }

@@ -1,3 +1,4 @@
 pub mod Fields
 pub mod Transfers
 pub mod Requests
+pub mod Rooms

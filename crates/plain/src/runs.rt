@@ -40,7 +40,7 @@ impl PlainDisk {
         for i in 0..count {
             match self.verify_step(block + i as u64) {
                 End::Done => {}
-                end => return end,
+                stop => return stop,
             }
         }
         End::Done
@@ -56,7 +56,7 @@ impl PlainDisk {
             let at = BLOCK * i as usize;
             match self.write_step(block + i as u64, &from[at..at + BLOCK]) {
                 End::Done => {}
-                cut => return cut,
+                stop => return stop,
             }
         }
         End::Done

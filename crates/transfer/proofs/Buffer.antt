@@ -30,7 +30,7 @@ put-put at us vs d h =
     let t : take n (take at d ++ (us ++ rest)) ≡ front = ap (take n) e ∙ take-at front rest n k in
     let u : drop n (take at d ++ (us ++ rest)) ≡ rest = ap (drop n) e ∙ drop-at front rest n k in
     let w : drop (n + length vs) (take at d ++ (us ++ rest)) ≡ drop (n + length vs) d =
-        sym (drop-drop (length vs) n (take at d ++ (us ++ rest))) ∙ ap (drop (length vs)) u ∙ drop-drop (length vs) n d in
+    sym (drop-drop (length vs) n (take at d ++ (us ++ rest))) ∙ ap (drop (length vs)) u ∙ drop-drop (length vs) n d in
     let z : at + length (us ++ vs) ≡ n + length vs = simp length-append (omega arith) in
     rw (t, w, z) (simp append-assoc)
 
@@ -46,5 +46,5 @@ put-mid a k xs new h l =
     let i : length (take k y) ≡ k = simp (length-take, length-drop) (omega arith) in
     let j : m ≤ length (take k y) = omega arith in
     let e : drop m (take k y) ++ drop k y ≡ drop (a + m) xs =
-        sym (drop-append-le m (take k y) (drop k y) j) ∙ ap (drop m) (take-append-drop k y) ∙ drop-drop m a xs in
+    sym (drop-append-le m (take k y) (drop k y) j) ∙ ap (drop m) (take-append-drop k y) ∙ drop-drop m a xs in
     ap (λ r. take a xs ++ r) (append-assoc new (drop m (take k y)) (drop k y) ∙ ap (λ r. new ++ r) e)

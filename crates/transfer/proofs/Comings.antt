@@ -45,20 +45,20 @@ comes-read ws most w b p at e h k l =
       long = length-reads b p;
       bytes = refl;
       runs = λ o s room keep n.
-        (let m = keep .limit in
-        let f = keep .formed .most-fits in
-        let z : limit w ≡ count-limit (wide (s .words)) = reach w (wide (s .words)) (e ∙ ap (λ (v : List ℕ). width-of (wide v)) (sym (keep .words))) in
-        let t : blocks-of ws ≡ size s = ap blocks-of (sym (keep .words)) ∙ keep .formed .blocks-true in
-        perform-read o s w b p room (keep .lit) (e ∙ ap (λ (v : List ℕ). width-of (wide v)) (sym (keep .words))) h (omega arith) (omega arith) (omega arith) (omega arith));
+          (let m = keep .limit in
+          let f = keep .formed .most-fits in
+          let z : limit w ≡ count-limit (wide (s .words)) = reach w (wide (s .words)) (e ∙ ap (λ (v : List ℕ). width-of (wide v)) (sym (keep .words))) in
+          let t : blocks-of ws ≡ size s = ap blocks-of (sym (keep .words)) ∙ keep .formed .blocks-true in
+          perform-read o s w b p room (keep .lit) (e ∙ ap (λ (v : List ℕ). width-of (wide v)) (sym (keep .words))) h (omega arith) (omega arith) (omega arith) (omega arith));
       few = λ o s keep. reads-read p b o (s .machine) (keep .formed .sectors) .few;
       all = λ o s keep f. reads-read p b o (s .machine) (keep .formed .sectors) .all f;
       gains-all = refl;
       gains-some = λ o s x keep f.
-        (let r = reads-read p b o (s .machine) (keep .formed .sectors) in
-        let i = r .last x f in
-        let j = r .before x f in
-        omega arith);
-      gains-none = refl
+          (let r = reads-read p b o (s .machine) (keep .formed .sectors) in
+          let i = r .last x f in
+          let j = r .before x f in
+          omega arith);
+      gains-none = refl;
     }
 
 writes-first : (t : Bool) (b p : ℕ) (ys : List ℕ) → 0 < p → writes t b (blocks p ys) ≡ writeStep t b (bytes (take 512 ys)) ∷ writes t (suc b) (blocks (p - 1) (drop 512 ys))
@@ -76,18 +76,18 @@ comes-write ws most w t ys b p e u h k l r =
       long = length-writes t b (blocks p ys) ∙ length-blocks p ys;
       bytes = sym (zero-mul p);
       runs = λ o s room keep n.
-        (let m = keep .limit in
-        let f = keep .formed .most-fits in
-        let e2 : w ≡ width-of (wide (s .words)) = e ∙ ap (λ (v : List ℕ). width-of (wide v)) (sym (keep .words)) in
-        let z : limit w ≡ count-limit (wide (s .words)) = reach w (wide (s .words)) e2 in
-        let i : blocks-of ws ≡ size s = ap blocks-of (sym (keep .words)) ∙ keep .formed .blocks-true in
-        perform-write o s w t b p ys (keep .lit) e2 (λ q. ap through (keep .words) ∙ u q) (keep .formed .through-wide) h (omega arith) (omega arith) r (omega arith)
-        ∙ ap (λ (z : List ℕ). ran s z (steps o (writes t b (blocks p ys)) (s .machine))) (sym (empty room n)));
+          (let m = keep .limit in
+          let f = keep .formed .most-fits in
+          let e2 : w ≡ width-of (wide (s .words)) = e ∙ ap (λ (v : List ℕ). width-of (wide v)) (sym (keep .words)) in
+          let z : limit w ≡ count-limit (wide (s .words)) = reach w (wide (s .words)) e2 in
+          let i : blocks-of ws ≡ size s = ap blocks-of (sym (keep .words)) ∙ keep .formed .blocks-true in
+          perform-write o s w t b p ys (keep .lit) e2 (λ q. ap through (keep .words) ∙ u q) (keep .formed .through-wide) h (omega arith) (omega arith) r (omega arith)
+          ∙ ap (λ (z : List ℕ). ran s z (steps o (writes t b (blocks p ys)) (s .machine))) (sym (empty room n)));
       few = λ o s keep. (let q = ap length (silent-steps (writes t b (blocks p ys)) o (s .machine) (silent-writes t b (blocks p ys)) .none) in omega arith);
       all = λ o s keep f. ap length (silent-steps (writes t b (blocks p ys)) o (s .machine) (silent-writes t b (blocks p ys)) .none);
       gains-all = refl;
       gains-some = λ o s x keep f. absurd (silent-steps (writes t b (blocks p ys)) o (s .machine) (silent-writes t b (blocks p ys)) .never x f);
-      gains-none = refl
+      gains-none = refl;
     }
 
 -- one silent step
@@ -108,7 +108,7 @@ comes-one ws most t x still go =
       all = λ o s keep f. ap length (silent-steps (x ∷ []) o (s .machine) (still, tt) .none);
       gains-all = refl;
       gains-some = λ o s z keep f. absurd (silent-steps (x ∷ []) o (s .machine) (still, tt) .never z f);
-      gains-none = refl
+      gains-none = refl;
     }
 
 pub comes-flush : (ws : List ℕ) (most : ℕ) (w : Width) → w ≡ width-of (wide ws) → Comes ws most (plain-ask (flush-task w)) (group 1 0) (flushStep ∷ [])

@@ -123,6 +123,7 @@ module _ (t n c p : ℕ) (rest gs : List Group) (h : 0 < t) (is : p ≡ min t (s
     where
       d : commands-of (group p (c * p) ∷ rest) j ≡ suc (commands-of rest (j - p))
       d = commands-past (group p (c * p)) rest (j - p) j (omega arith) (omega arith)
+
       by-full : t ≤ suc n → Now j
       by-full full =
           let i : j - p - (suc n - p) ≡ j - suc n = omega arith in
@@ -132,6 +133,7 @@ module _ (t n c p : ℕ) (rest gs : List Group) (h : 0 < t) (is : p ≡ min t (s
           let w = more (j - p) in
           let z : pieces-of t (min j (suc n)) ≡ pieces-of t (t + min (j - p) (suc n - p)) = ap (pieces-of t) m in
           omega (arith, d, a, b, w, z)
+
       by-last : suc n < t → Now j
       by-last last =
           let i : j - p - (suc n - p) ≡ j - suc n = omega arith in
@@ -173,6 +175,7 @@ finished-turn t n c p j rest h is some low more = elim (le-or-past j p) [ inl wi
         let l : j - 1 < t = omega arith in
         let q : (j - 1) / t ≡ 0 = div-eq-of-lt l in
         finished-first (group p (c * p)) rest j within ∙ sym (ap (λ (z : ℕ). c * (t * z)) q ∙ ap (λ (z : ℕ). c * z) (mul-zero t) ∙ mul-zero c)
+
     by-past : p < j → finished-of (group p (c * p) ∷ rest) j ≡ c * (t * ((j - 1) / t))
     by-past past =
         let e : p ≡ t = omega arith in

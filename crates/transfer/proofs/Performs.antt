@@ -33,8 +33,8 @@ named-some l (suc p) h = refl
 named-mod : (l p : ℕ) → 0 < p → p ≤ l → named l (p % l) ≡ p
 named-mod l p h k =
     elim (below-or-is p l k) [
-      inl w ↦ ap (named l) (mod-eq-of-lt w) ∙ named-some l p h
-    | inr w ↦ ap (named l) (ap (λ (z : ℕ). z % l) w ∙ mod-self l) ∙ sym w
+      | inl w ↦ ap (named l) (mod-eq-of-lt w) ∙ named-some l p h
+      | inr w ↦ ap (named l) (ap (λ (z : ℕ). z % l) w ∙ mod-self l) ∙ sym w
     ]
 
 moves-runs : (s : State) (b n : ℕ) (short : Bool) (buffer : List ℕ) (go : Gave) → n ≤ s .most → short ≡ false → b + n ≤ size s → moves s b n short buffer go ≡ go

@@ -92,7 +92,7 @@ module _ (s : State) (gs : List Group) (ys : List Step) (at : ℕ) (buffer : Lis
         verdict = subst (λ (z : Outcome). r ≡ told-by (z .end)) (sym e) ve;
         commands = subst (λ (n : ℕ). q .commands ≡ p .commands + commands-of gs n) (sym f) co;
         bytes = subst (λ (z : Outcome). q .bytes ≡ p .bytes + bytes-by (z .end) (length (z .given)) (finished-of gs (begun o ys (s .machine)))) (sym e)
-          (subst (λ (n : ℕ). q .bytes ≡ p .bytes + bytes-by (x .end) (length (x .given)) (finished-of gs n)) (sym f) by)
+            (subst (λ (n : ℕ). q .bytes ≡ p .bytes + bytes-by (x .end) (length (x .given)) (finished-of gs n)) (sym f) by);
       }
 
   module _ (g : Group) (hs : List Group) (groups : gs ≡ g ∷ hs) (xs zs : List Step) (cut : ys ≡ xs ++ zs) (long : length xs ≡ g .steps) (o : Oracle) where
@@ -114,9 +114,9 @@ module _ (s : State) (gs : List Group) (ys : List Step) (at : ℕ) (buffer : Lis
         let rest : Outcome = steps (more .choices) zs (out .machine) in
         let j : ℕ = begun (more .choices) zs (out .machine) in
         let whole : run w ys s ≡ ends (rest .end) (out .given ++ rest .given) (rest .machine) =
-          split w ∙ steps-join xs zs o (more .choices) (s .machine) ∙ ap (λ (z : End). next-by z (out .given) (out .machine) (more .choices)) e in
+        split w ∙ steps-join xs zs o (more .choices) (s .machine) ∙ ap (λ (z : End). next-by z (out .given) (out .machine) (more .choices)) e in
         let counts : begun w ys (s .machine) ≡ g .steps + j =
-          split-begun w ∙ begun-join xs zs o (more .choices) (s .machine) ∙ ap (λ (z : End). begun-then z (begun o xs (s .machine)) j) e ∙ ap (λ (n : ℕ). n + j) (begun-all xs o (s .machine) e ∙ long) in
+        split-begun w ∙ begun-join xs zs o (more .choices) (s .machine) ∙ ap (λ (z : End). begun-then z (begun o xs (s .machine)) j) e ∙ ap (λ (n : ℕ). n + j) (begun-all xs o (s .machine) e ∙ long) in
         let cs : commands-of gs (g .steps + j) ≡ suc (commands-of hs j) = ap (λ (z : List Group). commands-of z (g .steps + j)) groups ∙ commands-past g hs j (g .steps + j) some refl in
         let k : at + length (out .given) ≤ length buffer = omega arith in
         by-run w (ends (rest .end) (out .given ++ rest .given) (rest .machine)) (g .steps + j) whole counts
@@ -125,11 +125,12 @@ module _ (s : State) (gs : List Group) (ys : List Step) (at : ℕ) (buffer : Lis
         (more .verdict)
         (more .commands ∙ (let h1 = more .commands in omega (arith, cs)))
         (bytes-turn (rest .end) (q .bytes) (p′ .bytes) (p .bytes) len (length (out .given ++ rest .given)) (length (rest .given)) (finished-of hs j) (finished-of gs (g .steps + j))
-          (more .bytes) by (length-append (out .given) (rest .given) ∙ ap (λ (n : ℕ). n + length (rest .given)) l)
-          (λ f. ap (λ (z : List Group). finished-of z (g .steps + j)) groups ∙ finished-past g hs j (g .steps + j) (cut-begun zs (more .choices) (out .machine) f) refl ∙ ap (λ (n : ℕ). n + finished-of hs j) (sym size)))
+        (more .bytes) by (length-append (out .given) (rest .given) ∙ ap (λ (n : ℕ). n + length (rest .given)) l)
+        (λ f. ap (λ (z : List Group). finished-of z (g .steps + j)) groups ∙ finished-past g hs j (g .steps + j) (cut-begun zs (more .choices) (out .machine) f) refl ∙ ap (λ (n : ℕ). n + finished-of hs j) (sym size)))
       where
         next-by : End → List ℕ → Machine → Oracle → Outcome
         next-by e g m c = next e g m (λ n. steps c zs n)
+
         orders-on : (a b : ℕ) → min (min (a + 1) 18446744073709551615 + b) 18446744073709551615 ≡ min (a + suc b) 18446744073709551615
         orders-on a b = omega arith
 
@@ -157,6 +158,7 @@ module _ (s : State) (gs : List Group) (ys : List Step) (at : ℕ) (buffer : Lis
         stays Done h m f no-done = absurd (no-done refl)
         stays (Stopped x) h m f no-done = refl
         stays Cut h m f no-done = refl
+
         begun-stays : (e : End) (k n : ℕ) → (e ≡ Done → ⊥) → begun-then e k n ≡ k
         begun-stays Done k n no-done = absurd (no-done refl)
         begun-stays (Stopped x) k n no-done = refl
@@ -207,23 +209,24 @@ module _ {D : Type 0} (does : D → Exchange → D → Type 0) (meaning : D → 
     counted-bytes v n j w = ap (λ (z : Verdict). p .bytes + k .gains z) j ∙ ap (λ (z : ℕ). p .bytes + z) w
 
     pub turn : (Keep ws most (meaning (h .mid)) → length (laid k (h .back) buffer) ≡ length buffer → Held does ks (h .mid) (laid k (h .back) buffer) (counted k (h .answer) p) e end q r →
-          Stepping (meaning (h .mid)) gs zs (k .at + k .len) (laid k (h .back) buffer) (counted k (h .answer) p) (meaning e) end q r) →
+        Stepping (meaning (h .mid)) gs zs (k .at + k .len) (laid k (h .back) buffer) (counted k (h .answer) p) (meaning e) end q r) →
         Stepping s (g ∷ gs) ys (k .at) buffer p (meaning e) end q r
     turn more = by (result .end) refl
       where
         some-steps : 0 < g .steps
         some-steps = (let l = comes .long in let i : length xs ≡ suc (length (comes .others)) = ap length (comes .some) in omega arith)
+
         by : (x : End) → result .end ≡ x → Stepping s (g ∷ gs) ys (k .at) buffer p (meaning e) end q r
         by Done x =
             let j : judged (h .answer) ≡ Ok tt = judged-so Done x in
             let a : length (result .given) ≡ k .len = comes .all o s keep x in
             let u : k .at + length (result .given) ≤ length buffer = omega arith in
             let keep′ : Keep ws most (meaning (h .mid)) = record {
-                words = ap (λ (z : State). z .words) becomes ∙ keep .words;
-                limit = ap (λ (z : State). z .most) becomes ∙ keep .limit;
-                lit = ap (λ (z : State). z .machine .lit) becomes ∙ lit-kept o xs (s .machine) x ∙ keep .lit;
-                formed = formed (h .mid)
-              } in
+              words = ap (λ (z : State). z .words) becomes ∙ keep .words;
+              limit = ap (λ (z : State). z .most) becomes ∙ keep .limit;
+              lit = ap (λ (z : State). z .machine .lit) becomes ∙ lit-kept o xs (s .machine) x ∙ keep .lit;
+              formed = formed (h .mid);
+            } in
             let z = more keep′ (ap length lies ∙ put-length (k .at) (result .given) buffer u) (h .well tt j) in
             then-more s (g ∷ gs) ys (k .at) buffer p (meaning e) end q r g gs refl xs zs cut (comes .long) o (k .len) (counted k (h .answer) p) some-steps (comes .bytes) x a room refl (counted-bytes (Ok tt) (k .len) j (comes .gains-all))
             (subst (λ (m : State). Stepping m gs zs (k .at + k .len) (put (k .at) (result .given) buffer) (counted k (h .answer) p) (meaning e) end q r) becomes
@@ -256,7 +259,7 @@ module _ {D : Type 0} (does : D → Exchange → D → Type 0) (meaning : D → 
         data-in = w .1 ∙ sym (put-none at buffer);
         verdict = w .3;
         commands = ap (λ (z : Tally). z .commands) (w .2) ∙ (let c = commands-none 0 in omega arith);
-        bytes = ap (λ (z : Tally). z .bytes) (w .2) ∙ omega arith
+        bytes = ap (λ (z : Tally). z .bytes) (w .2) ∙ omega arith;
       }
   planned [] (g ∷ gs) ys at to d e buffer end p q r plan room keep h = absurd plan
   planned (k ∷ ks) [] ys at to d e buffer end p q r plan room keep h = absurd plan
@@ -267,6 +270,6 @@ module _ {D : Type 0} (does : D → Exchange → D → Type 0) (meaning : D → 
       subst (λ (z : ℕ). Stepping (meaning d) (g ∷ gs) ys z buffer p (meaning e) end q r) i
       (turn k ks g gs (plan .0) ys (plan .1) d e buffer end p q r (plan .2) (plan .3) keep (omega arith) x
       (λ keep′ same h′.
-        let j : to ≤ length (laid k (x .back) buffer) = omega arith in
-        subst (λ (z : ℕ). Stepping (meaning (x .mid)) gs (plan .1) (z + k .len) (laid k (x .back) buffer) (counted k (x .answer) p) (meaning e) end q r) (sym i)
-        (planned ks gs (plan .1) (at + k .len) to (x .mid) e (laid k (x .back) buffer) end (counted k (x .answer) p) q r (plan .6) j keep′ h′)))
+      let j : to ≤ length (laid k (x .back) buffer) = omega arith in
+      subst (λ (z : ℕ). Stepping (meaning (x .mid)) gs (plan .1) (z + k .len) (laid k (x .back) buffer) (counted k (x .answer) p) (meaning e) end q r) (sym i)
+      (planned ks gs (plan .1) (at + k .len) to (x .mid) e (laid k (x .back) buffer) end (counted k (x .answer) p) q r (plan .6) j keep′ h′)))

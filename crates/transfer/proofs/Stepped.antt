@@ -51,7 +51,7 @@ stepped-by s gs ys commands finished buffer t end q r c f h =
       verdict = h .verdict;
       counted = many ∙ c j low;
       bytes = h .bytes ∙ zero-more (bytes-by (run o ys s .end) (length (run o ys s .given)) (finished-of gs j))
-        ∙ bytes-same (run o ys s .end) (length (run o ys s .given)) (finished-of gs j) (finished j) (λ e. f j (cut-begun ys o (s .machine) e) low)
+          ∙ bytes-same (run o ys s .end) (length (run o ys s .given)) (finished-of gs j) (finished j) (λ e. f j (cut-begun ys o (s .machine) e) low);
     }
   where
     zero-more : (n : ℕ) → 0 + n ≡ n
@@ -178,7 +178,7 @@ module _ {D : Type 0} (does : D → Exchange → D → Type 0) (meaning : D → 
       let ys : List Step = writes t b (blocks n xs) ++ flush-steps v n in
       let long : length ys ≡ n + flushes v n = length-append (writes t b (blocks n xs)) (flush-steps v n) ∙ ap (λ (z : ℕ). z + length (flush-steps v n)) (length-writes t b (blocks n xs) ∙ length-blocks n xs) ∙ ap (λ (z : ℕ). n + z) (length-flush v n) in
       let plan : Plan (s .words) most 0 0 (cut n (write-ask w t xs) most b n 0 ++ flush-beside w v n) (cut-groups n most n 0 (flush-groups v n)) ys =
-        plan-writes (s .words) w t xs most 0 (flush-beside w v n) (flush-groups v n) (flush-steps v n) is-width can some-most (flush-plan v n) n n b 0 (omega arith) (omega arith) (omega arith) in
+      plan-writes (s .words) w t xs most 0 (flush-beside w v n) (flush-groups v n) (flush-steps v n) is-width can some-most (flush-plan v n) n n b 0 (omega arith) (omega arith) (omega arith) in
       subst (λ (z : ℕ). Stepped s (writes t b (blocks n xs) ++ flush-steps v z) (write-commands most n) none-finished buffer (meaning e) end q r) (sym (length-blocks n xs))
       (stepped-by s (cut-groups n most n 0 (flush-groups v n)) ys (write-commands most n) none-finished buffer (meaning e) end q r
       (λ j low. write-counts most n v some-most j (omega arith))

@@ -44,12 +44,15 @@ plan-reads zero ws w t (suc n) b at to e s h k r = absurd (omega arith)
 plan-reads (suc f) ws w t zero b at to e s h k r = (refl, omega arith)
 plan-reads (suc f) ws w t (suc n) b at to e s h k r =
     let p : ℕ = min t (suc n) in
-    let i : suc n ≡ p + (suc n - p) = omega arith in
-    (reads b p, reads (b + p) (suc n - p),
-    comes-read ws t w b p at e (omega arith) (omega arith) (omega arith),
-    ap (λ (z : ℕ). reads b z) i ∙ reads-split b p (suc n - p),
-    refl, omega arith,
-    plan-reads f ws w t (suc n - p) (b + p) (at + 512 * p) to e s (omega arith) (omega arith) (omega arith))
+    let i : suc n ≡ p + (suc n - p) = omega arith in (
+      reads b p,
+      reads (b + p) (suc n - p),
+      comes-read ws t w b p at e (omega arith) (omega arith) (omega arith),
+      ap (λ (z : ℕ). reads b z) i ∙ reads-split b p (suc n - p),
+      refl,
+      omega arith,
+      plan-reads f ws w t (suc n - p) (b + p) (at + 512 * p) to e s (omega arith) (omega arith) (omega arith),
+    )
 
 -- the blocks of data, cut in two
 blocks-split : (p m : ℕ) (ys : List ℕ) → blocks (p + m) ys ≡ blocks p ys ++ blocks m (drop (512 * p) ys)
@@ -87,18 +90,22 @@ module _ (ws : List ℕ) (w : Width) (through-it : Bool) (xs : List ℕ) (t to :
       let long : 512 * p ≤ length mine = simp (length-take, length-drop) (omega arith) in
       let tail : List Step = writes through-it (b + p) (blocks m (drop (at + 512 * p) xs)) in
       let cs : blocks (suc n) ys ≡ blocks p mine ++ blocks m (drop (at + 512 * p) xs) =
-        ap (λ (z : ℕ). blocks z ys) i ∙ blocks-split p m ys
-        ∙ ap (λ (z : List Content). z ++ blocks m (drop (512 * p) ys)) (sym (blocks-front p (512 * p) ys (omega arith)))
-        ∙ ap (λ (z : List ℕ). blocks p mine ++ blocks m z) (drop-drop (512 * p) at xs) in
+      ap (λ (z : ℕ). blocks z ys) i ∙ blocks-split p m ys
+      ∙ ap (λ (z : List Content). z ++ blocks m (drop (512 * p) ys)) (sym (blocks-front p (512 * p) ys (omega arith)))
+      ∙ ap (λ (z : List ℕ). blocks p mine ++ blocks m z) (drop-drop (512 * p) at xs) in
       let whole : writes through-it b (blocks (suc n) ys) ++ zs ≡ writes through-it b (blocks p mine) ++ (tail ++ zs) =
-        ap (λ (z : List Content). writes through-it b z ++ zs) cs
-        ∙ ap (λ (z : List Step). z ++ zs) (writes-join through-it b (blocks p mine) (blocks m (drop (at + 512 * p) xs)))
-        ∙ ap (λ (z : ℕ). (writes through-it b (blocks p mine) ++ writes through-it (b + z) (blocks m (drop (at + 512 * p) xs))) ++ zs) (length-blocks p mine)
-        ∙ append-assoc (writes through-it b (blocks p mine)) tail zs in
-      (writes through-it b (blocks p mine), tail ++ zs,
-      comes-write ws t w through-it mine b p e can (omega arith) (omega arith) (omega arith) long,
-      whole, refl, (let z = plan-low ks gs zs rest in omega arith),
-      plan-writes f m (b + p) (at + 512 * p) (omega arith) (omega arith) (omega arith))
+      ap (λ (z : List Content). writes through-it b z ++ zs) cs
+      ∙ ap (λ (z : List Step). z ++ zs) (writes-join through-it b (blocks p mine) (blocks m (drop (at + 512 * p) xs)))
+      ∙ ap (λ (z : ℕ). (writes through-it b (blocks p mine) ++ writes through-it (b + z) (blocks m (drop (at + 512 * p) xs))) ++ zs) (length-blocks p mine)
+      ∙ append-assoc (writes through-it b (blocks p mine)) tail zs in (
+        writes through-it b (blocks p mine),
+        tail ++ zs,
+        comes-write ws t w through-it mine b p e can (omega arith) (omega arith) (omega arith) long,
+        whole,
+        refl,
+        (let z = plan-low ks gs zs rest in omega arith),
+        plan-writes f m (b + p) (at + 512 * p) (omega arith) (omega arith) (omega arith),
+      )
     where
       plan-low : (ks : List Ask) (gs : List Group) (zs : List Step) → Plan ws t 0 to ks gs zs → 0 ≤ to
       plan-low ks gs zs h = omega arith

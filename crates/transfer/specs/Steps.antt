@@ -8,8 +8,9 @@ use Rattle.std.specs.declared.option.Option.the-variants.{None, Some}
 use Rattle.std.specs.declared.result.Result.the-variants.{Ok}
 use Rattle.ata.specs.declared.answer.End.{End}
 use Rattle.ata.specs.declared.answer.End.the-variants.{Done, Stopped, Cut}
-use Rattle.ata.specs.Machine.{Content, Machine, Step, flushStep, Oracle, steps, begun}
+use Rattle.ata.specs.Machine.{Content, Machine, Step, flushStep, idleStep, Oracle, Look, shown, steps, begun}
 use Rattle.ata.specs.Commands.{State, reads, writes, over}
+use Rattle.ata.specs.Shows.{read-shows, write-shows}
 use Rattle.sense.specs.declared.case.Sense.the-variants.{NoAnswer, Unreadable}
 use Rattle.transfer.specs.declared.counts.Tally.{Tally}
 use Rattle.transfer.specs.declared.writing.Force.{Force}
@@ -69,6 +70,28 @@ read-finished t fua n = finished-by t (flushes fua n)
 
 abbrev pub none-finished : ℕ → ℕ
 none-finished j = 0
+
+-- The work that a command is to the blocks: its steps, the commands that the first j of them make, the bytes of the commands
+-- finished when power fails at step j, and what the steps show, from the faces, while power lasts.
+pub record Work : Type 0 where
+  pub steps : List Step
+  pub commands : ℕ → ℕ
+  pub finished : ℕ → ℕ
+  pub shows : List Content → Look
+
+-- READ of n blocks from b on, in pieces of t: it gives them up to the first that cannot be read
+abbrev pub read-work : ℕ → Bool → ℕ → ℕ → Work
+read-work t fua b n =
+    record { steps = read-steps fua b n; commands = read-commands t fua n; finished = read-finished t fua n; shows = read-shows b n }
+
+-- WRITE of contents from b on: they are put over those that were there
+abbrev pub write-work : ℕ → Force → ℕ → List Content → Work
+write-work t force b cs =
+    record { steps = write-steps force b cs; commands = write-commands t (length cs); finished = none-finished; shows = write-shows b cs }
+
+-- a command that does nothing to the blocks
+abbrev pub idle-work : ℕ → Work
+idle-work t = record { steps = idleStep ∷ []; commands = commands-by t 1 0; finished = none-finished; shows = shown }
 
 -- n commands more, counted up to 2^64 - 1, and the machine after them
 abbrev pub after-commands : State → ℕ → Machine → State

@@ -10,12 +10,12 @@ use Rattle.ata.specs.declared.task.AtaCommand.the-variants.{IdentifyDevice}
 use Rattle.ata.specs.Words.{wide, through}
 use Rattle.ata.specs.Commands.{State, size, fetches-words}
 use Rattle.ata.specs.Exchange.{Exchange, exchange}
-use Rattle.transfer.specs.Tasks.{task}
+use Rattle.transfer.specs.Tasks.{width-of, task}
 use Rattle.transfer.specs.Talk.{Verdict, judged}
 use Rattle.unit.specs.declared.known.Facts.{Facts}
 use Rattle.unit.specs.declared.standing.Phase.{Phase}
 use Rattle.unit.specs.declared.standing.Phase.the-variants.{Unfit, Attention, Ready}
-use Rattle.unit.specs.Fitness.{is-fit, width-of, KnownFrom}
+use Rattle.unit.specs.Fitness.{is-fit, KnownFrom}
 
 -- fit where IDENTIFY DEVICE succeeded and its words are
 abbrev pub fit-by : Verdict → List ℕ → Bool

@@ -8,7 +8,7 @@ use lib.ListN.{length, take, drop}
 use Rattle.std.specs.declared.result.Result.{Result}
 use Rattle.std.specs.declared.result.Result.the-variants.{Ok, Err}
 use Rattle.ata.specs.declared.task.AtaCommand.the-variants.{CheckPowerMode}
-use Rattle.ata.specs.Commands.{over}
+use Rattle.ata.specs.Commands.{over, blocks}
 use Rattle.ata.specs.Exchange.{Exchange}
 use Rattle.sense.specs.declared.case.Sense.{Sense}
 use Rattle.sense.specs.declared.case.Sense.the-variants.{DeviceFault, Attention as AttentionSense, PastEnd}
@@ -27,6 +27,7 @@ use Rattle.transfer.specs.declared.writing.Force.the-variants.{Cached, Through,
 use Rattle.transfer.specs.Tasks.{task, piece}
 use Rattle.transfer.specs.Talk.{Ask, Verdict, none-yet, Held}
 use Rattle.transfer.specs.Asks.{plain-ask, read-asks, write-asks}
+use Rattle.transfer.specs.Steps.{Work, read-work, write-work, idle-work}
 use Rattle.unit.specs.declared.known.Facts.{Facts}
 use Rattle.unit.specs.declared.standing.Phase.{Phase}
 use Rattle.unit.specs.declared.standing.Phase.the-variants.{Unfit, Attention, Ready}
@@ -35,12 +36,13 @@ use Rattle.unit.specs.declared.replies.Reply.the-variants.{Good}
 use Rattle.unit.specs.Replies.{replied, stopped-at}
 use Rattle.unit.specs.Capacity.{capacity-data}
 
--- Turned away by number; stopped at a place; answered by the unit; or put to the drive, with the first bytes of data-in.
+-- Turned away by number; stopped at a place; answered by the unit; or put to the drive, with the first bytes of data-in:
+-- by these commands, which are this work.
 pub data Course : Type 0 where
   refused : Refusal → Course
   stopped : Place → Sense → Course
   answers : List ℕ → Course
-  asks : ℕ → List Ask → Course
+  asks : ℕ → List Ask → Work → Course
 
 abbrev pub past : Facts → Extent → Bool
 past f x = leb (f .blocks) (x .block) || ltb (f .blocks) (x .block + x .count)
@@ -56,14 +58,15 @@ power-check = plain-ask (task CheckPowerMode 0 0) ∷ []
 
 -- a command to a unit that is ready, whose drive takes `most` blocks at once
 abbrev pub course-of : Facts → ℕ → List ℕ → Command → Course
-course-of f most out TestUnitReady = asks 0 power-check
+course-of f most out TestUnitReady = asks 0 power-check (idle-work most)
 course-of f most out ReadCapacity = answers (capacity-data (f .blocks))
 course-of f most out (Read fua x) =
     cond (past f x) (stopped CdbPlace PastEnd)
-    (asks (512 * x .count) (read-asks (f .width) fua (piece (f .width) most) (x .block) (x .count)))
+    (asks (512 * x .count) (read-asks (f .width) fua (piece (f .width) most) (x .block) (x .count)) (read-work most fua (x .block) (x .count)))
 course-of f most out (Write fua x) =
     cond (past f x) (stopped CdbPlace PastEnd)
-    (asks 0 (write-asks (f .width) (force-by fua (f .through)) (piece (f .width) most) (x .block) (take (512 * x .count) out)))
+    (asks 0 (write-asks (f .width) (force-by fua (f .through)) (piece (f .width) most) (x .block) (take (512 * x .count) out))
+    (write-work most (force-by fua (f .through)) (x .block) (blocks (x .count) (take (512 * x .count) out))))
 
 abbrev pub in-phase : Facts → Phase → ℕ → List ℕ → Result Command Sense → Course
 in-phase f Unfit most out c = stopped UnitPlace DeviceFault
@@ -95,12 +98,12 @@ abbrev pub phase-after : Course → Phase → Phase
 phase-after (refused n) p = p
 phase-after (stopped at s) p = calm p
 phase-after (answers xs) p = calm p
-phase-after (asks n ks) p = calm p
+phase-after (asks n ks w) p = calm p
 
 -- What the drive, data-in and the reply are after a command that took the course.
 abbrev pub Comes : {D : Type 0} → (D → Exchange → D → Type 0) → Course → D → List ℕ → D → List ℕ → Result Reply Refusal → Type 0
 Comes does (refused n) d b e b′ r = (e ≡ d) × (b′ ≡ b) × (r ≡ Err n)
 Comes does (stopped at s) d b e b′ r = (e ≡ d) × (b′ ≡ b) × (r ≡ Ok (stopped-at at s))
 Comes does (answers xs) d b e b′ r = (e ≡ d) × (b′ ≡ over xs b) × (r ≡ Ok (Good (record { bytes = length xs; commands = 0 })))
-Comes does (asks n ks) d b e b′ r =
+Comes does (asks n ks w) d b e b′ r =
     (end : List ℕ) × (q : Tally) × (v : Verdict) × Held does ks d (take n b) none-yet e end q v × (b′ ≡ end ++ drop n b) × (r ≡ Ok (replied v q))

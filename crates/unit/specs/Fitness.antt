@@ -9,8 +9,7 @@ use lib.Dec.{eqb, ltb}
 use lib.ListN.{length, getD}
 use Rattle.ata.specs.Words.{word, claims, wide, through, blocks-of}
 use Rattle.cdb.specs.declared.command.Extent.{Extent}
-use Rattle.transfer.specs.declared.tasks.Width.{Width}
-use Rattle.transfer.specs.declared.tasks.Width.the-variants.{Bits28, Bits48}
+use Rattle.transfer.specs.Tasks.{width-of}
 use Rattle.unit.specs.declared.known.Facts.{Facts}
 
 abbrev pub bit : ℕ → ℕ → Bool
@@ -30,10 +29,6 @@ reach w = cond w (2 ^ 48) (2 ^ 28)
 abbrev pub is-fit : List ℕ → Bool
 is-fit ws =
     not (claims ws 0 32768) && (claims ws 83 16384 && (not (claims ws 83 32768) && (ltb 0 (blocks-of ws) && ltb (blocks-of ws) (reach (wide ws)))))
-
-abbrev pub width-of : Bool → Width
-width-of true = Bits48
-width-of false = Bits28
 
 pub record KnownFrom (ws : List ℕ) (f : Facts) : Type 0 where
   pub fit : is-fit ws ≡ true

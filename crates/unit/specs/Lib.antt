@@ -2,5 +2,5 @@ pub mod Replies
 pub mod Fitness
 pub mod Capacity
 pub mod Courses
-pub mod Rooms
+pub mod Works
 pub mod Attached

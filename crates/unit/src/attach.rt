@@ -1,7 +1,7 @@
 //! A unit's beginning and end.
 
 ghost use mathlib.Core.Path.{_≡_};
-ghost use Rattle.unit.specs.Attached.{Identified};
+ghost use Rattle.unit.specs.Attached.{Identified, Remembers};
 use crate::known::Facts;
 use crate::standing::Phase;
 use ata::AtaCommand;
@@ -20,6 +20,7 @@ impl<D: Drive> Unit<D> {
     /// Takes a drive, and asks it what it is. A new unit has an attention to report.
     pub fn attach(mut drive: D) -> Unit<D>
         ensures sent { λ r. ⌜ Identified (D·Drive .does) drive (r .drive) (r .phase) (r .facts) ⌝ }
+        ensures remembers { λ r. ⌜ Remembers (r .phase) (r .facts) (D·Drive .meaning (r .drive)) ⌝ }
     {
         let mut words = [0u16; 256];
         let task = TaskFile {

@@ -10,7 +10,10 @@ ghost use Rattle.cdb.specs.declared.command.Command.the-variants.{Read, Write};
 ghost use Rattle.unit.specs.declared.replies.Reply.the-variants.{Good};
 ghost use Rattle.unit.specs.Capacity.{capacity-data};
 ghost use Rattle.unit.specs.Courses.{Comes, asks, course, phase-after, calm, in-phase, course-of, force-by, power-check};
-ghost use Rattle.unit.specs.Rooms.{Room};
+ghost use Rattle.transfer.specs.Steps.{idle-work};
+ghost use Rattle.unit.specs.Attached.{Remembers};
+ghost use Rattle.cdb.specs.Rooms.{Room};
+ghost use Rattle.unit.specs.Works.{Works};
 use crate::attach::Unit;
 use crate::capacity::capacity_data;
 use crate::known::Facts;
@@ -101,7 +104,7 @@ impl<D: Drive> Unit<D> {
     }
 
     fn test_ready(&mut self) -> Reply
-        ensures came { λ r. ⌜ ((b : List ℕ) → Comes (D·Drive .does) (asks 0 power-check) (now (self .entry) .drive) b (now (self .exit) .drive) b (Ok r)) ⌝ }
+        ensures came { λ r. ⌜ ((b : List ℕ) → Comes (D·Drive .does) (asks 0 power-check (idle-work (D·Drive .meaning (now (self .entry) .drive) .most))) (now (self .entry) .drive) b (now (self .exit) .drive) b (Ok r)) ⌝ }
         ensures phase { λ _. ⌜ now (self .exit) .phase ≡ now (self .entry) .phase ⌝ }
         ensures facts { λ _. ⌜ now (self .exit) .facts ≡ now (self .entry) .facts ⌝ }
     {
@@ -139,6 +142,8 @@ impl<D: Drive> Unit<D> {
     /// Carries out a command, or refuses it by number and changes nothing.
     pub fn command(&mut self, cdb: &[u8], out: &[u8], into: &mut [u8]) -> Result<Reply, Refusal>
         ensures came { λ r. ⌜ Comes (D·Drive .does) (course (now (self .entry) .facts) (now (self .entry) .phase) (D·Drive .meaning (now (self .entry) .drive) .most) (now (cdb .entry)) (now (out .entry)) (length (now (into .entry)))) (now (self .entry) .drive) (now (into .entry)) (now (self .exit) .drive) (now (into .exit)) r ⌝ }
+        ensures works { λ r. ⌜ (Remembers (now (self .entry) .phase) (now (self .entry) .facts) (D·Drive .meaning (now (self .entry) .drive)) → Works (course (now (self .entry) .facts) (now (self .entry) .phase) (D·Drive .meaning (now (self .entry) .drive) .most) (now (cdb .entry)) (now (out .entry)) (length (now (into .entry)))) (D·Drive .meaning (now (self .entry) .drive)) (now (into .entry)) (D·Drive .meaning (now (self .exit) .drive)) (now (into .exit)) r) ⌝ }
+        ensures remembers { λ _. ⌜ (Remembers (now (self .entry) .phase) (now (self .entry) .facts) (D·Drive .meaning (now (self .entry) .drive)) → Remembers (now (self .exit) .phase) (now (self .exit) .facts) (D·Drive .meaning (now (self .exit) .drive))) ⌝ }
         ensures phase { λ _. ⌜ now (self .exit) .phase ≡ phase-after (course (now (self .entry) .facts) (now (self .entry) .phase) (D·Drive .meaning (now (self .entry) .drive) .most) (now (cdb .entry)) (now (out .entry)) (length (now (into .entry)))) (now (self .entry) .phase) ⌝ }
         ensures facts { λ _. ⌜ now (self .exit) .facts ≡ now (self .entry) .facts ⌝ }
     {

@@ -6,7 +6,7 @@ ghost use Prim.Native.Nat.{ℕ, _+_, _<_, _≤_, _^_};
 ghost use lib.ListN.{length, getD};
 ghost use Rattle.ata.specs.Words.{wide, through, blocks-of};
 ghost use Rattle.std.specs.Options.{Cases};
-ghost use Rattle.unit.specs.Fitness.{is-fit, width-of, KnownFrom, Past, InRange};
+ghost use Rattle.unit.specs.Fitness.{is-fit, KnownFrom, Past, InRange};
 ghost use Rattle.transfer.specs.Talk.{judged};
 ghost use Rattle.unit.specs.Attached.{Begins};
 use crate::known::Facts;

@@ -10,6 +10,7 @@ use Rattle.transfer.specs.declared.faults.Place.the-variants.{Cdb}
 use Rattle.transfer.specs.Tasks.{piece}
 use Rattle.transfer.specs.Talk.{Ask, Held, none-yet}
 use Rattle.transfer.specs.Asks.{read-asks}
+use Rattle.transfer.specs.Steps.{read-work}
 use Rattle.unit.specs.Courses.{Comes, stopped, asks}
 use Rattle.unit.proofs.Ranges.{not-past, whole-blocks}
 use Rattle.unit.proofs.attach.Unit.read.Needs as need
@@ -33,7 +34,7 @@ returns-in-Some g c =
     let reached = ap (λ (k : ℕ). back ++ drop k before) none in
     record {
       came = λ out.
-          subst (λ (v : Bool). Comes (g .D·Drive .does) (cond v (stopped Cdb PastEnd) (asks (512 * n) (ks (x .block) n))) d before e (back ++ drop (512 * n - 0) before) (Ok (c .from-drive .result))) (sym (not-past f x (c .in-Some .start .value) within))
+          subst (λ (v : Bool). Comes (g .D·Drive .does) (cond v (stopped Cdb PastEnd) (asks (512 * n) (ks (x .block) n) (read-work (g .D·Drive .meaning d .most) (c .args .fua) (x .block) n))) d before e (back ++ drop (512 * n - 0) before) (Ok (c .from-drive .result))) (sym (not-past f x (c .in-Some .start .value) within))
           (back, c .read-verdict .result .0, c .read-verdict .result .1, said, reached, ap Ok (c .from-drive .ensures));
       phase = refl;
       facts = refl;

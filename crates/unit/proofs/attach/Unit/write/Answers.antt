@@ -10,7 +10,9 @@ use Rattle.transfer.specs.declared.faults.Place.the-variants.{Cdb}
 use Rattle.transfer.specs.declared.writing.Force.{Force}
 use Rattle.transfer.specs.Tasks.{piece}
 use Rattle.transfer.specs.Talk.{Ask, Held, none-yet}
+use Rattle.ata.specs.Commands.{blocks}
 use Rattle.transfer.specs.Asks.{write-asks}
+use Rattle.transfer.specs.Steps.{write-work}
 use Rattle.unit.specs.Courses.{Comes, stopped, asks, force-by}
 use Rattle.unit.proofs.Ranges.{not-past}
 use Rattle.unit.proofs.attach.Unit.write.Needs as need
@@ -32,7 +34,7 @@ returns-in-Some g c =
     (subst (λ (k : ℕ). Held (g .D·Drive .does) (ks (c .force-how .result) (c .in-Some .start .value) (take k before)) d [] none-yet e [] (c .write-verdict .result .0) (c .write-verdict .result .1)) none (c .write-verdict .ensures []))) in
     record {
       came = λ b.
-          subst (λ (v : Bool). Comes (g .D·Drive .does) (cond v (stopped Cdb PastEnd) (asks 0 (ks (force-by (c .args .fua) (f .through)) (x .block) (take (512 * n) before)))) d b e b (Ok (c .from-drive .result))) (sym (not-past f x (c .in-Some .start .value) within))
+          subst (λ (v : Bool). Comes (g .D·Drive .does) (cond v (stopped Cdb PastEnd) (asks 0 (ks (force-by (c .args .fua) (f .through)) (x .block) (take (512 * n) before)) (write-work (g .D·Drive .meaning d .most) (force-by (c .args .fua) (f .through)) (x .block) (blocks n (take (512 * n) before))))) d b e b (Ok (c .from-drive .result))) (sym (not-past f x (c .in-Some .start .value) within))
           ([], c .write-verdict .result .0, c .write-verdict .result .1, said, refl, ap Ok (c .from-drive .ensures));
       phase = refl;
       facts = refl;

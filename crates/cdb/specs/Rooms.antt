@@ -1,10 +1,10 @@
--- The room that a command has been found to have in its buffers.
+-- The room that a command needs in data-out and data-in.
 use Prim.Native.Nat.{ℕ, _*_, _≤_}
 use Rattle.std.specs.declared.result.Result.{Result}
 use Rattle.std.specs.declared.result.Result.the-variants.{Ok, Err}
 use Rattle.sense.specs.declared.case.Sense.{Sense}
 use Rattle.cdb.specs.declared.command.Command.{Command}
 use Rattle.cdb.specs.declared.command.Command.the-variants.{TestUnitReady, ReadCapacity, Read, Write}
 
 abbrev pub Room : Result Command Sense → ℕ → ℕ → Type 0
 Room (Err s) out into = Unit {0}
