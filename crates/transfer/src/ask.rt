@@ -49,7 +49,7 @@ pub(crate) fn ask_plain<D: Drive>(
     ensures talk { λ r. ⌜ Asked (D·Drive .does) (plain-ask task) (now (drive .entry)) [] (now (tally .entry)) (now (drive .exit)) [] (now (tally .exit)) r ⌝ }
 {
     let answer = drive.no_data(task);
-    tally.commands += 1;
+    tally.count_command();
     judge(answer)
 }
 
@@ -84,7 +84,7 @@ pub(crate) fn ask_read<D: Drive>(
     ensures talk { λ r. ⌜ ((at : ℕ) → Asked (D·Drive .does) (read-ask width block count at) (now (drive .entry)) (now (into .entry)) (now (tally .entry)) (now (drive .exit)) (now (into .exit)) (now (tally .exit)) r) ⌝ }
 {
     let answer = drive.data_in(read_task(width, block, count), into);
-    tally.commands += 1;
+    tally.count_command();
     let verdict = judge(answer);
     tally.bytes += gained(block, count, &verdict);
     verdict
@@ -104,6 +104,6 @@ pub(crate) fn ask_write<D: Drive>(
     ensures talk { λ r. ⌜ Asked (D·Drive .does) (sent-ask width through (now (from .entry)) block count) (now (drive .entry)) [] (now (tally .entry)) (now (drive .exit)) [] (now (tally .exit)) r ⌝ }
 {
     let answer = drive.data_out(write_task(width, through, block, count), from);
-    tally.commands += 1;
+    tally.count_command();
     judge(answer)
 }

@@ -17,10 +17,7 @@ use ata::TaskFile;
 pub fn order<D: Drive>(drive: &mut D, task: TaskFile) -> (Tally, Result<(), Fault>)
     ensures { λ r. ⌜ ((b : List ℕ) → Held (D·Drive .does) (plain-ask task ∷ []) (now (drive .entry)) b none-yet (now (drive .exit)) b (r .0) (r .1)) ⌝ }
 {
-    let mut tally = Tally {
-        bytes: 0,
-        commands: 0,
-    };
+    let mut tally = Tally::new();
     let verdict = ask_plain(drive, task, &mut tally);
     (tally, verdict)
 }

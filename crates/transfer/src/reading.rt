@@ -77,10 +77,7 @@ pub fn read<D: Drive>(
 ) -> (Tally, Result<(), Fault>)
     ensures { λ r. ⌜ Held (D·Drive .does) (read-asks width fua (piece width (D·Drive .meaning (now (drive .entry)) .most)) (start .value) (length (now («data» .entry)) / 512)) (now (drive .entry)) (now («data» .entry)) none-yet (now (drive .exit)) (now («data» .exit)) (r .0) (r .1) ⌝ }
 {
-    let mut tally = Tally {
-        bytes: 0,
-        commands: 0,
-    };
+    let mut tally = Tally::new();
     let verdict = read_by(drive, width, fua, start.value(), data, &mut tally);
     (tally, verdict)
 }

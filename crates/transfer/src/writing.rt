@@ -102,10 +102,7 @@ pub fn write<D: Drive>(
 ) -> (Tally, Result<(), Fault>)
     ensures { λ r. ⌜ ((b : List ℕ) → Held (D·Drive .does) (write-asks width force (piece width (D·Drive .meaning (now (drive .entry)) .most)) (start .value) (now («data» .entry))) (now (drive .entry)) b none-yet (now (drive .exit)) b (r .0) (r .1)) ⌝ }
 {
-    let mut tally = Tally {
-        bytes: 0,
-        commands: 0,
-    };
+    let mut tally = Tally::new();
     let verdict = write_by(drive, width, force, start.value(), data, &mut tally);
     (tally, verdict)
 }

@@ -1,0 +1,7 @@
+//! Tests of the library on examples.
+
+#[cfg(test)]
+mod table;
+
+#[cfg(test)]
+mod unit_on_disk;
