@@ -3,3 +3,5 @@ pub mod Power
 pub mod Lit
 pub mod Ranges
 pub mod Shown
+pub mod Levels
+pub mod Unseen

@@ -3,3 +3,4 @@ pub mod Words
 pub mod Commands
 pub mod Exchange
 pub mod Shows
+pub mod Laws

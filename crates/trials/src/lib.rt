@@ -2,6 +2,5 @@
 
 #[cfg(test)]
 mod table;
-
 #[cfg(test)]
 mod unit_on_disk;

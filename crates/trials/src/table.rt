@@ -1,8 +1,8 @@
 //! The result table, on a row or more of each kind.
 
 use sense::Sense;
-use sense::SensePartialEq;
 use sense::SenseDebug;
+use sense::SensePartialEq;
 use sense::result;
 use std::test::*;
 

@@ -56,10 +56,12 @@ fn on_sixteen(rt: &LibcRuntime, cdb: &[u8]) -> Result<Result<Told, Refusal>, Fai
     let _ = unit.command(&[0, 0, 0, 0, 0, 0], &[], &mut []);
     let answer = unit.command(cdb, out.as_slice(), into.as_mut_slice());
     let _image = unit.detach().into_image();
-    Ok(match answer {
-        Ok(reply) => Ok(numbers(reply)),
-        Err(refusal) => Err(refusal),
-    })
+    Ok(
+        match answer {
+            Ok(reply) => Ok(numbers(reply)),
+            Err(refusal) => Err(refusal),
+        },
+    )
 }
 
 fn good(bytes: usize, commands: u64) -> Result<Told, Refusal> {
@@ -84,10 +86,22 @@ fn stopped(key: u8, code: u8) -> Result<Told, Refusal> {
 
 #[test]
 fn addresses(rt: LibcRuntime) -> Result<(), Fail> {
-    check_eq(on_sixteen(&rt, &[0x28, 0, 0, 0, 0, 15, 0, 0, 1, 0])?, good(512, 1))?;
-    check_eq(on_sixteen(&rt, &[0x28, 0, 0, 0, 0, 15, 0, 0, 2, 0])?, stopped(5, 0x21))?;
-    check_eq(on_sixteen(&rt, &[0x28, 0, 0, 0, 0, 16, 0, 0, 0, 0])?, stopped(5, 0x21))?;
-    check_eq(on_sixteen(&rt, &[0x28, 0, 255, 255, 255, 255, 0, 0, 2, 0])?, stopped(5, 0x21))
+    check_eq(
+        on_sixteen(&rt, &[0x28, 0, 0, 0, 0, 15, 0, 0, 1, 0])?,
+        good(512, 1),
+    )?;
+    check_eq(
+        on_sixteen(&rt, &[0x28, 0, 0, 0, 0, 15, 0, 0, 2, 0])?,
+        stopped(5, 0x21),
+    )?;
+    check_eq(
+        on_sixteen(&rt, &[0x28, 0, 0, 0, 0, 16, 0, 0, 0, 0])?,
+        stopped(5, 0x21),
+    )?;
+    check_eq(
+        on_sixteen(&rt, &[0x28, 0, 255, 255, 255, 255, 0, 0, 2, 0])?,
+        stopped(5, 0x21),
+    )
 }
 
 #[test]
@@ -99,14 +113,29 @@ fn unreadable_block_is_named(rt: LibcRuntime) -> Result<(), Fail> {
         bytes: 512,
         commands: 1,
     };
-    check_eq(on_sixteen(&rt, &[0x28, 0, 0, 0, 0, 2, 0, 0, 5, 0])?, Ok(third))?;
-    check_eq(on_sixteen(&rt, &[0x2A, 0x08, 0, 0, 0, 3, 0, 0, 1, 0])?, good(0, 2))
+    check_eq(
+        on_sixteen(&rt, &[0x28, 0, 0, 0, 0, 2, 0, 0, 5, 0])?,
+        Ok(third),
+    )?;
+    check_eq(
+        on_sixteen(&rt, &[0x2A, 0x08, 0, 0, 0, 3, 0, 0, 1, 0])?,
+        good(0, 2),
+    )
 }
 
 #[test]
 fn refusals(rt: LibcRuntime) -> Result<(), Fail> {
     check_eq(on_sixteen(&rt, &[])?, Err(Refusal::CdbLength))?;
-    check_eq(on_sixteen(&rt, &[0x28, 0, 0, 0, 0, 0])?, Err(Refusal::CdbLength))?;
-    check_eq(on_sixteen(&rt, &[0x28, 0, 0, 0, 0, 0, 0, 0, 17, 0])?, Err(Refusal::DataInShort))?;
-    check_eq(on_sixteen(&rt, &[0x2A, 0, 0, 0, 0, 0, 0, 0, 17, 0])?, Err(Refusal::DataOutShort))
+    check_eq(
+        on_sixteen(&rt, &[0x28, 0, 0, 0, 0, 0])?,
+        Err(Refusal::CdbLength),
+    )?;
+    check_eq(
+        on_sixteen(&rt, &[0x28, 0, 0, 0, 0, 0, 0, 0, 17, 0])?,
+        Err(Refusal::DataInShort),
+    )?;
+    check_eq(
+        on_sixteen(&rt, &[0x2A, 0, 0, 0, 0, 0, 0, 0, 17, 0])?,
+        Err(Refusal::DataOutShort),
+    )
 }

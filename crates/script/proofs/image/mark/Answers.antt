@@ -1,0 +1,22 @@
+use mathlib.Core.Path.{_≡_, refl, sym, _∙_, ap}
+use Prim.Native.Nat.{_+_, _*_, _≤_}
+use native.Mathlib.Omega.{arith}
+use lib.ListN.{length, getD, take, set}
+use Rattle.std.proofs.shelf.Lists.{set-past, take-all}
+use Rattle.std.proofs.shelf.Sums.{folded-more}
+use Rattle.script.specs.Images.{spoiled, marked}
+use Rattle.script.proofs.image.mark.Needs as need
+use Rattle.script.proofs.image.mark.Needs.{then-at-image, else-at-image}
+
+-- one more block is marked, whether it has a mark or lies past the end
+pub loop-block-again : need.loop-block-again
+loop-block-again c =
+    let at = getD (c .args .bad .now) (c .loop-block .block-index) 0 in
+    let more = folded-more spoiled (c .args .image .now) (c .args .bad .now) (c .loop-block .block-index) 0 (c .loop-block-test .taken) in
+    elim (c .if-at-image .came) [
+      | then-at-image w ↦ w .image-is ∙ ap (λ xs. spoiled xs at) (c .loop-block .inv) ∙ sym more
+      | else-at-image w ↦ w .image-is ∙ sym (set-past (c .loop-block .image) (513 * at) 1 (w .if-at-image .left)) ∙ ap (λ xs. spoiled xs at) (c .loop-block .inv) ∙ sym more
+    ]
+
+pub returns : need.returns
+returns c = c .loop-block .inv ∙ ap (marked (c .args .image .now)) (take-all (c .loop-block .block-index) (c .args .bad .now) (c .loop-block-test .left))

@@ -1,0 +1,3 @@
+pub mod Built
+pub mod Images
+pub mod Digits

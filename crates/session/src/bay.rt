@@ -1,0 +1,65 @@
+//! The disks that can be put into the bay.
+
+ghost use Prim.Native.Nat.{_≤_};
+ghost use lib.ListN.{length};
+ghost use Rattle.std.specs.Vec.{made};
+use crate::counts::Counts;
+use crate::serve::run_unit;
+use crate::shown::Number;
+use crate::shown::NumberDisplay;
+use plain::PlainDisk;
+use plain::PlainDrive;
+use script::DiskPlan;
+use script::Line;
+use script::plain_image;
+use std::alloc::AllocError;
+use std::alloc::Global;
+use std::error::AnyError;
+use std::fmt;
+
+/// A disk of any kind.
+#[derive(Drop)]
+pub enum Disk {
+    Plain(PlainDisk),
+}
+
+impl Disk {
+    pub fn make(heap: Global, plan: &DiskPlan) -> Result<Disk, AllocError> {
+        match plan {
+            DiskPlan::Plain { blocks, bad } => {
+                let image = plain_image(heap, *blocks, bad.as_slice())?;
+                Ok(Disk::Plain(PlainDisk::new(image)))
+            }
+        }
+    }
+
+    /// Puts the disk into the bay for the acts up to its detachment.
+    pub fn serve(
+        self,
+        rt: &LibcRuntime,
+        lines: &[Line],
+        counts: &mut Counts,
+    ) -> (Disk, Result<usize, AnyError>)
+        ensures { λ r. ⌜ made (r .1) (λ n. n ≤ length (now (lines .entry))) ⌝ }
+    {
+        match self {
+            Disk::Plain(disk) => {
+                let (disk, taken) = run_unit(rt, disk, lines, counts);
+                (Disk::Plain(disk), taken)
+            }
+        }
+    }
+}
+
+pub impl fmt::Display for Disk as DiskDisplay {
+    fn fmt<W: fmt::Write>(&self, f: &mut fmt::Formatter<W>) -> fmt::Result {
+        match self {
+            Disk::Plain(disk) => {
+                let blocks = Number(disk.blocks(), "block");
+                let errors = Number(disk.errors() as u64, "error");
+                let orders = Number(disk.orders(), "ATA command");
+                write!(f, "plain disk, {blocks}, {errors}, {orders} taken")
+            }
+        }
+    }
+}
