@@ -10,6 +10,8 @@ use std::alloc::Global;
 pub enum Act {
     /// Makes a disk.
     Disk(DiskPlan),
+    /// Puts a port before the disk, which lets through at most so many blocks at once.
+    Port(u32),
     /// Puts the disk into the bay.
     Attach,
     /// Takes it out.

@@ -1,10 +1,10 @@
 //! The calls that a line can make: each function takes the words after the act's name.
 
 use crate::act::Call;
-use crate::build::read_capacity_cdb;
-use crate::build::read10_cdb;
-use crate::build::test_unit_ready_cdb;
-use crate::build::write10_cdb;
+use host::read_capacity_cdb;
+use host::read10_cdb;
+use host::test_unit_ready_cdb;
+use host::write10_cdb;
 use crate::numbers::byte;
 use crate::numbers::number16;
 use crate::numbers::number32;

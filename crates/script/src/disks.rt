@@ -3,6 +3,7 @@
 use crate::act::DiskPlan;
 use crate::numbers::number32;
 use crate::words::next;
+use crate::words::none_left;
 use crate::wrong::Wrong;
 use crate::wrong::WrongFromRefused;
 use std::alloc::Global;
@@ -33,4 +34,11 @@ fn plain_disk(heap: Global, mut words: SplitWhitespace<'_>) -> Result<DiskPlan, 
         }
     }
     Ok(DiskPlan::Plain { blocks, bad })
+}
+
+/// `LIMIT`
+pub(crate) fn port(mut words: SplitWhitespace<'_>) -> Result<u32, Wrong> {
+    let limit = number32(next(&mut words)?)?;
+    none_left(words)?;
+    Ok(limit)
 }

@@ -1,10 +1,8 @@
 //! A lab session's script: its acts, how a line reads as one, and what the acts are made of.
 
 mod act;
-mod build;
 mod calls;
 mod disks;
-mod image;
 mod line;
 mod lines;
 mod numbers;
@@ -15,11 +13,6 @@ mod wrong;
 pub use act::Act;
 pub use act::Call;
 pub use act::DiskPlan;
-pub use build::read_capacity_cdb;
-pub use build::read10_cdb;
-pub use build::test_unit_ready_cdb;
-pub use build::write10_cdb;
-pub use image::plain_image;
 pub use line::parse;
 pub use line::written;
 pub use lines::Line;

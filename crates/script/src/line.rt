@@ -30,6 +30,7 @@ pub fn parse(heap: Global, line: &str) -> Result<Option<Act>, Wrong> {
     };
     let act = match name {
         "disk" => Act::Disk(disks::disk(heap, words)?),
+        "port" => Act::Port(disks::port(words)?),
         "attach" => alone(words, Act::Attach)?,
         "detach" => alone(words, Act::Detach)?,
         "test-unit-ready" => Act::Call(calls::test_unit_ready(heap, words)?),

@@ -7,11 +7,14 @@ use crate::counts::Counts;
 use crate::serve::run_unit;
 use crate::shown::Number;
 use crate::shown::NumberDisplay;
+use ata::Drive;
 use plain::PlainDisk;
 use plain::PlainDrive;
+use port::Port;
+use port::PortDrive;
 use script::DiskPlan;
 use script::Line;
-use script::plain_image;
+use host::plain_image;
 use std::alloc::AllocError;
 use std::alloc::Global;
 use std::error::AnyError;
@@ -33,10 +36,11 @@ impl Disk {
         }
     }
 
-    /// Puts the disk into the bay for the acts up to its detachment.
+    /// Puts the disk into the bay, behind a port where there is one, for the acts up to its detachment.
     pub fn serve(
         self,
         rt: &LibcRuntime,
+        port: Option<u32>,
         lines: &[Line],
         counts: &mut Counts,
     ) -> (Disk, Result<usize, AnyError>)
@@ -44,9 +48,28 @@ impl Disk {
     {
         match self {
             Disk::Plain(disk) => {
-                let (disk, taken) = run_unit(rt, disk, lines, counts);
+                let (disk, taken) = behind(rt, disk, port, lines, counts);
                 (Disk::Plain(disk), taken)
             }
+        }
+    }
+}
+
+// A drive, behind a port where there is one.
+fn behind<D: Drive>(
+    rt: &LibcRuntime,
+    drive: D,
+    port: Option<u32>,
+    lines: &[Line],
+    counts: &mut Counts,
+) -> (D, Result<usize, AnyError>)
+    ensures { λ r. ⌜ made (r .1) (λ n. n ≤ length (now (lines .entry))) ⌝ }
+{
+    match port {
+        None => run_unit(rt, drive, lines, counts),
+        Some(limit) => {
+            let (drive, taken) = run_unit(rt, Port::new(drive, limit), lines, counts);
+            (drive.into_inner(), taken)
         }
     }
 }

@@ -15,11 +15,12 @@ use script::StopDisplay;
 use script::StopError;
 use std::error::AnyError;
 
-/// The disk at hand, and whether it was in the bay yet.
+/// The disk at hand, whether it was in the bay yet, and the limit of the port before it.
 #[derive(Drop)]
 pub struct Hand {
     disk: Option<Disk>,
     fresh: bool,
+    port: Option<u32>,
 }
 
 impl Hand {
@@ -27,6 +28,7 @@ impl Hand {
         Hand {
             disk: None,
             fresh: false,
+            port: None,
         }
     }
 }
@@ -45,6 +47,22 @@ fn make_disk(
     println!(rt, "    {disk}")?;
     hand.disk = Some(disk);
     hand.fresh = true;
+    hand.port = None;
+    Ok(())
+}
+
+/// Puts a port before the disk, in the place of one that was there.
+fn put_port(
+    rt: &LibcRuntime,
+    line: &Line,
+    limit: u32,
+    hand: &mut Hand,
+) -> Result<(), AnyError> {
+    if hand.disk.is_none() {
+        return Err(line.misfit("there is no disk").into());
+    }
+    println!(rt, "    a port before the disk")?;
+    hand.port = Some(limit);
     Ok(())
 }
 
@@ -62,7 +80,7 @@ fn attach(
         return Err(line.misfit("there is no disk").into());
     };
     println!(rt, "    attached, 1 ATA command")?;
-    let (disk, taken) = disk.serve(rt, rest, counts);
+    let (disk, taken) = disk.serve(rt, hand.port, rest, counts);
     let taken = taken?;
     println!(rt, "    {disk}")?;
     hand.disk = Some(disk);
@@ -84,6 +102,7 @@ pub fn run_lines(
         at += 1;
         match &line.act {
             Act::Disk(plan) => make_disk(rt, line, plan, hand)?,
+            Act::Port(limit) => put_port(rt, line, *limit, hand)?,
             Act::Attach => at += attach(rt, line, &lines[at..], hand, counts)?,
             Act::Detach | Act::Call(_) => return Err(line.misfit("no disk is attached").into()),
         }

@@ -61,7 +61,7 @@ fn serve<D: Drive>(
                 counts.detached = true;
                 return Ok(i + 1);
             }
-            Act::Attach | Act::Disk(_) => return Err(
+            Act::Attach | Act::Disk(_) | Act::Port(_) => return Err(
                 line.misfit("a disk is attached already").into(),
             ),
         }

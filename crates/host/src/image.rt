@@ -5,7 +5,7 @@ ghost use Prim.Native.Nat.{ℕ, _*_, _<_};
 ghost use lib.ListN.{getD};
 ghost use Rattle.std.specs.Of.Vec.{vec-items, vec-len};
 ghost use Rattle.std.specs.Vec.{made};
-ghost use Rattle.script.specs.Images.{marked, plain-image, mark-of};
+ghost use Rattle.host.specs.Images.{marked, plain-image, mark-of};
 use std::alloc::AllocError;
 use std::alloc::Global;
 

@@ -6,7 +6,7 @@ ghost use Prim.Native.Nat.{_*_};
 ghost use Rattle.std.specs.declared.result.Result.the-variants.{Ok};
 ghost use Rattle.cdb.specs.declared.command.Command.the-variants.{TestUnitReady, ReadCapacity, Read, Write};
 ghost use Rattle.cdb.specs.Requests.{received, asks-for};
-ghost use Rattle.script.specs.Built.{six-bytes, ten-bytes, extent-of};
+ghost use Rattle.host.specs.Built.{six-bytes, ten-bytes, extent-of};
 
 /// READ(10), WRITE(10): the code, FUA in bit 3 of byte 1, the address in bytes 2 to 5, the length in bytes 7 and 8.
 fn ten_bytes(code: u8, block: u32, count: u16, fua: bool) -> [u8; 10]

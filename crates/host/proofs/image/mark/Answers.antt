@@ -4,9 +4,9 @@ use native.Mathlib.Omega.{arith}
 use lib.ListN.{length, getD, take, set}
 use Rattle.std.proofs.shelf.Lists.{set-past, take-all}
 use Rattle.std.proofs.shelf.Sums.{folded-more}
-use Rattle.script.specs.Images.{spoiled, marked}
-use Rattle.script.proofs.image.mark.Needs as need
-use Rattle.script.proofs.image.mark.Needs.{then-at-image, else-at-image}
+use Rattle.host.specs.Images.{spoiled, marked}
+use Rattle.host.proofs.image.mark.Needs as need
+use Rattle.host.proofs.image.mark.Needs.{then-at-image, else-at-image}
 
 -- one more block is marked, whether it has a mark or lies past the end
 pub loop-block-again : need.loop-block-again

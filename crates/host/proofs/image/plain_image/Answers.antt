@@ -5,9 +5,9 @@ use borrow.Author.Needs.{needs}
 use lib.ListN.{length, getD, replicate, take, drop}
 use Rattle.std.specs.Of.Vec.{vec-items, vec-len}
 use Rattle.std.proofs.shelf.Lists.{take-at}
-use Rattle.script.specs.Images.{marked, plain-image}
-use Rattle.script.proofs.Marks.{length-plain, marks-of-plain}
-use Rattle.script.proofs.image.plain_image.Needs as need
+use Rattle.host.specs.Images.{marked, plain-image}
+use Rattle.host.proofs.Marks.{length-plain, marks-of-plain}
+use Rattle.host.proofs.image.plain_image.Needs as need
 
 -- what `mark` leaves is the whole of the image
 pub returns : need.returns

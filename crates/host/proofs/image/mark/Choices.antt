@@ -1,7 +1,7 @@
 use mathlib.Core.Path.{_≡_}
 use lib.ListN.{take}
-use Rattle.script.specs.Images.{marked}
-use Rattle.script.proofs.image.mark.Given as given
+use Rattle.host.specs.Images.{marked}
+use Rattle.host.proofs.image.mark.Given as given
 
 abbrev pub Inv-loop-block : given.InvT-loop-block
 Inv-loop-block l = l .image ≡ marked (l .entry .image) (take (l .block-index) (l .bad))

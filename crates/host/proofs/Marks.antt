@@ -10,7 +10,7 @@ use lib.ListN.{length, getD, set, replicate, length-set, length-replicate, getD-
 use lib.Seq.{getD-set-same, getD-set-other}
 use borrow.Author.Tests.{eq-eqb}
 use Rattle.std.proofs.shelf.Tests.{cases-eq, ne-eqb}
-use Rattle.script.specs.Images.{spoiled, marked, plain-image, mark-of}
+use Rattle.host.specs.Images.{spoiled, marked, plain-image, mark-of}
 
 pub length-marked : (image bad : List ℕ) → length (marked image bad) ≡ length image
 length-marked image [] = refl
