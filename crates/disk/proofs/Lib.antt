@@ -8,3 +8,5 @@ pub mod Buffers
 pub mod Performs
 pub mod Loads
 pub mod Acts
+pub mod Copies
+pub mod Sets

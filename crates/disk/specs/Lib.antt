@@ -3,3 +3,4 @@ pub mod Powers
 pub mod Claimed
 pub mod Orders
 pub mod Quiet
+pub mod Copied

@@ -2,6 +2,7 @@
 
 mod answer;
 mod cell;
+mod copy;
 mod order;
 mod power;
 mod words;
@@ -13,6 +14,7 @@ pub use cell::CELL;
 pub use cell::cell_readable;
 pub use cell::read_cell;
 pub use cell::write_cell;
+pub use copy::copy_cell;
 pub use order::Order;
 pub use order::order_of;
 pub use power::Power;

@@ -7,4 +7,5 @@ pub use build::read_capacity_cdb;
 pub use build::read10_cdb;
 pub use build::test_unit_ready_cdb;
 pub use build::write10_cdb;
+pub use image::caching_image;
 pub use image::plain_image;

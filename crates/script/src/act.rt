@@ -24,7 +24,17 @@ pub enum Act {
 #[derive(Drop)]
 pub enum DiskPlan {
     /// A plain disk of zeros, some of whose blocks cannot be read.
-    Plain { blocks: u32, bad: Vec<u32> },
+    Plain {
+        blocks: u32,
+        bad: Vec<u32>,
+    },
+    /// A caching disk of zeros, likewise; its cache on or off at first, and whether it takes the write through it.
+    Caching {
+        blocks: u32,
+        bad: Vec<u32>,
+        cache: bool,
+        through: bool,
+    },
 }
 
 /// A call of the unit: the CDB, data-out as `out` bytes of `fill`, data-in of `into` bytes, and how many of them to show.

@@ -1,10 +1,6 @@
 //! The calls that a line can make: each function takes the words after the act's name.
 
 use crate::act::Call;
-use host::read_capacity_cdb;
-use host::read10_cdb;
-use host::test_unit_ready_cdb;
-use host::write10_cdb;
 use crate::numbers::byte;
 use crate::numbers::number16;
 use crate::numbers::number32;
@@ -15,6 +11,10 @@ use crate::words::none_left;
 use crate::wrong::Wrong;
 use crate::wrong::WrongFromAlloc;
 use crate::wrong::WrongFromRefused;
+use host::read_capacity_cdb;
+use host::read10_cdb;
+use host::test_unit_ready_cdb;
+use host::write10_cdb;
 use std::alloc::Global;
 use std::str::SplitWhitespace;
 

@@ -8,13 +8,16 @@ use crate::serve::run_unit;
 use crate::shown::Number;
 use crate::shown::NumberDisplay;
 use ata::Drive;
+use caching::CachingDisk;
+use caching::CachingDrive;
+use host::caching_image;
+use host::plain_image;
 use plain::PlainDisk;
 use plain::PlainDrive;
 use port::Port;
 use port::PortDrive;
 use script::DiskPlan;
 use script::Line;
-use host::plain_image;
 use std::alloc::AllocError;
 use std::alloc::Global;
 use std::error::AnyError;
@@ -24,6 +27,7 @@ use std::fmt;
 #[derive(Drop)]
 pub enum Disk {
     Plain(PlainDisk),
+    Caching(CachingDisk),
 }
 
 impl Disk {
@@ -32,6 +36,15 @@ impl Disk {
             DiskPlan::Plain { blocks, bad } => {
                 let image = plain_image(heap, *blocks, bad.as_slice())?;
                 Ok(Disk::Plain(PlainDisk::new(image)))
+            }
+            DiskPlan::Caching {
+                blocks,
+                bad,
+                cache,
+                through,
+            } => {
+                let image = caching_image(heap, *blocks, bad.as_slice())?;
+                Ok(Disk::Caching(CachingDisk::new(image, *cache, *through)))
             }
         }
     }
@@ -50,6 +63,10 @@ impl Disk {
             Disk::Plain(disk) => {
                 let (disk, taken) = behind(rt, disk, port, lines, counts);
                 (Disk::Plain(disk), taken)
+            }
+            Disk::Caching(disk) => {
+                let (disk, taken) = behind(rt, disk, port, lines, counts);
+                (Disk::Caching(disk), taken)
             }
         }
     }
@@ -82,6 +99,12 @@ pub impl fmt::Display for Disk as DiskDisplay {
                 let errors = Number(disk.errors() as u64, "error");
                 let orders = Number(disk.orders(), "ATA command");
                 write!(f, "plain disk, {blocks}, {errors}, {orders} taken")
+            }
+            Disk::Caching(disk) => {
+                let blocks = Number(disk.blocks(), "block");
+                let errors = Number(disk.errors() as u64, "error");
+                let orders = Number(disk.orders(), "ATA command");
+                write!(f, "caching disk, {blocks}, {errors}, {orders} taken")
             }
         }
     }

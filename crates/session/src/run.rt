@@ -52,12 +52,7 @@ fn make_disk(
 }
 
 /// Puts a port before the disk, in the place of one that was there.
-fn put_port(
-    rt: &LibcRuntime,
-    line: &Line,
-    limit: u32,
-    hand: &mut Hand,
-) -> Result<(), AnyError> {
+fn put_port(rt: &LibcRuntime, line: &Line, limit: u32, hand: &mut Hand) -> Result<(), AnyError> {
     if hand.disk.is_none() {
         return Err(line.misfit("there is no disk").into());
     }

@@ -7,12 +7,12 @@
 mod turns;
 
 use ata::Drive;
-use plain::PlainDisk;
-use plain::PlainDrive;
 use host::plain_image;
 use host::read10_cdb;
 use host::test_unit_ready_cdb;
 use host::write10_cdb;
+use plain::PlainDisk;
+use plain::PlainDrive;
 use std::error::AnyError;
 use std::time::Duration;
 use turns::BYTES;
@@ -38,7 +38,10 @@ fn through_unit<D: Drive>(
 fn show(rt: &LibcRuntime, name: &str, took: Duration, copied: Duration) -> Result<(), AnyError> {
     let micros = took.as_secs_f64() * 1e6 / TURNS as f64;
     let ratio = took.as_secs_f64() / copied.as_secs_f64();
-    eprintln!(rt, "{name}: {micros:.2} microseconds, {ratio:.2} times a copy")?;
+    eprintln!(
+        rt,
+        "{name}: {micros:.2} microseconds, {ratio:.2} times a copy"
+    )?;
     Ok(())
 }
 

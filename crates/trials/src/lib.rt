@@ -2,7 +2,6 @@
 
 #[cfg(test)]
 mod bad_line;
-
 #[cfg(test)]
 mod table;
 #[cfg(test)]

@@ -16,7 +16,7 @@ returns c =
     let blank : vec-items (c .in-Continue-image .image) ≡ replicate (513 * c .args .blocks) 0 = search needs in
     let long : vec-len (c .in-Continue-image .image) ≡ 513 * c .args .blocks = search needs in
     let last : c .mark .last .image ≡ plain-image (c .args .blocks) bad =
-    c .mark .ensures ∙ ap (λ xs. marked xs bad) (c .as-mut-slice .ensures .value ∙ blank) in
+    c .mark .ensures ∙ ap (λ xs. marked 513 0 xs bad) (c .as-mut-slice .ensures .value ∙ blank) in
     let fits : length (c .mark .last .image) ≡ vec-len (c .in-Continue-image .image) =
     ap length last ∙ length-plain (c .args .blocks) bad ∙ sym long in
     let bytes = take-at (c .mark .last .image) (drop (length (c .mark .last .image)) (c .in-Continue-image .image .items)) (vec-len (c .in-Continue-image .image)) fits ∙ last in

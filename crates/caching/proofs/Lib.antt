@@ -1,0 +1,6 @@
+mod Turns
+mod Writes
+mod Keeps
+mod Levels
+mod Blocks
+mod Answered
