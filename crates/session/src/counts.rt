@@ -9,8 +9,8 @@ use sense::Refusal;
 use std::fmt;
 use unit::Reply;
 
-/// The acts done, the commands by what they came to, the ATA commands that the units sent,
-/// and whether each unit was detached.
+/// The acts begun, the commands by what they came to, the ATA commands that the units sent,
+/// and whether the last unit was detached.
 #[derive(Clone, Copy)]
 pub struct Counts {
     pub acts: u64,

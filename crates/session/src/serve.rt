@@ -79,6 +79,7 @@ pub fn run_unit<D: Drive>(
     ensures { λ r. ⌜ made (r .1) (λ n. n ≤ length (now (lines .entry))) ⌝ }
 {
     let mut unit = Unit::attach(drive);
+    // The unit has asked the drive what it is.
     counts.commands = counts.commands.saturating_add(1);
     counts.detached = false;
     let taken = serve(rt, &mut unit, lines, counts);

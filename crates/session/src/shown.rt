@@ -5,7 +5,6 @@ use sense::Sense;
 use std::fmt;
 use transfer::Fault;
 use transfer::Place;
-use transfer::Tally;
 use unit::Reply;
 
 /// The words of a sense case.
