@@ -27,6 +27,13 @@ pub side-is : (offset n : ℕ) (items new slice image : List ℕ) (from : ℕ) �
 side-is offset n items new slice image from e f c =
     ap (λ (xs : List ℕ). contents 1026 offset n xs) e ∙ c ∙ ap (λ (xs : List ℕ). contents 1026 from n xs) f
 
+-- the two sides of an image after a write to block b
+pub faces-after : (n : ℕ) (items new slice image : List ℕ) (b : ℕ) (x : Content) → items ≡ new → slice ≡ image → faces n new ≡ set (faces n slice) b x → faces n items ≡ set (faces n image) b x
+faces-after n items new slice image b x e f h = ap (λ (xs : List ℕ). faces n xs) e ∙ h ∙ ap (λ (xs : List ℕ). set (faces n xs) b x) f
+
+pub media-after : (n : ℕ) (items new slice image : List ℕ) (b : ℕ) (x : Content) (deep : Bool) → items ≡ new → slice ≡ image → media n new ≡ cond deep (set (media n slice) b x) (media n slice) → media n items ≡ cond deep (set (media n image) b x) (media n image)
+media-after n items new slice image b x deep e f h = ap (λ (xs : List ℕ). media n xs) e ∙ h ∙ ap (λ (xs : List ℕ). cond deep (set (media n xs) b x) (media n xs)) f
+
 -- a write goes to the medium where it is through, or the cache is off
 pub sinks-as : (t on deep : Bool) (x y : List Content) → deep ≡ (t || not on) → cond deep x y ≡ cond t x (cond on y x)
 sinks-as t on deep x y e = ap (λ (v : Bool). cond v x y) e ∙ by t on

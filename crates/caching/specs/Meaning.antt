@@ -1,4 +1,4 @@
--- What the caching disk is as a drive: it holds a face and a medium of each block, and claims all but, where chosen, the write through its cache.
+-- What the caching disk is as a drive: a face and a medium of each block, 48-bit commands, a cache and, as chosen, the write through it.
 use mathlib.Core.Path.{_≡_}
 use mathlib.Core.List.{List, []}
 use mathlib.Core.Bool.{Bool, true, cond}
@@ -8,6 +8,7 @@ use Rattle.std.specs.Of.Vec.{vec-items}
 use Rattle.ata.specs.declared.answer.End.{End}
 use Rattle.ata.specs.declared.answer.End.the-variants.{Done, Stopped, Cut}
 use Rattle.ata.specs.Machine.{Store, Machine}
+use Rattle.ata.specs.Words.{showing}
 use Rattle.ata.specs.Commands.{State}
 use Rattle.disk.specs.declared.words.Claims.{Claims}
 use Rattle.disk.specs.declared.power.Power.{Power}
@@ -57,6 +58,10 @@ machine-of d = machine-with (store-in d) (d .power)
 
 abbrev pub state-of : CachingDisk → State
 state-of d = drive-of (d .blocks) (d .through) (store-in d) (d .power)
+
+-- the words that IDENTIFY DEVICE gives of it
+abbrev pub words-of : CachingDisk → List ℕ
+words-of d = showing (d .caching) (words-for (claims-of (d .blocks) (d .through)))
 
 -- the parts that no step changes
 pub record Kept (d e : CachingDisk) : Type 0 where

@@ -4,13 +4,12 @@ ghost use mathlib.Core.Path.{_≡_};
 ghost use mathlib.Core.Bool.{true, cond};
 ghost use mathlib.Core.List.{List, []};
 ghost use Prim.Native.Nat.{ℕ};
-ghost use Rattle.ata.specs.Words.{showing};
 ghost use Rattle.ata.specs.Commands.{Load, sends, fetches, fetches-words, room, gives, ordered, no-answer, taken, obeys};
 ghost use Rattle.ata.specs.Commands.{identify as Identifying, read as Reading, verify as Verifying, write as Writing, flush as Flushing, switch as Switching, idle as Idling};
 ghost use Rattle.disk.specs.Claimed.{words-for};
 ghost use Rattle.disk.specs.Orders.{meant, Moves-some, Bare};
 ghost use Rattle.disk.specs.Quiet.{quiet};
-ghost use Rattle.caching.specs.Meaning.{claims-of, state-of};
+ghost use Rattle.caching.specs.Meaning.{claims-of, words-of, state-of};
 use crate::caching_disk::CachingDisk;
 use ata::Answer;
 use ata::End;
@@ -48,7 +47,7 @@ impl CachingDisk {
 
     /// The words of the disk as it is.
     fn words(&self) -> [u16; 256]
-        ensures { λ r. ⌜ r ≡ showing (now (self .entry) .caching) (words-for (claims-of (now (self .entry) .blocks) (now (self .entry) .through))) ⌝ }
+        ensures { λ r. ⌜ r ≡ words-of (now (self .entry)) ⌝ }
     {
         let mut words = identify_words(self.claims());
         words[85] = self.cache_word();

@@ -16,7 +16,8 @@ const LARGEST: u64 = 268_435_455;
 impl CachingDisk {
     /// A lit disk over the whole blocks of an image, with its cache on or off, that takes the write through it or not.
     pub fn new(image: Vec<u8>, cache: bool, through: bool) -> CachingDisk
-        ensures { λ r. ⌜ state-of r ≡ fresh (vec-items image) cache through ⌝ }
+        ensures state { λ r. ⌜ state-of r ≡ fresh (vec-items image) cache through ⌝ }
+        ensures holds { λ r. ⌜ (cache ≡ true → image-of r ≡ vec-items image) ⌝ }
     {
         let blocks = ((image.len() / PAIR) as u64).min(LARGEST);
         CachingDisk {

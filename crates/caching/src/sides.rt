@@ -1,7 +1,7 @@
 //! The two sides of an image: the cells of the media, and those of the faces.
 
 ghost use mathlib.Core.Path.{_≡_};
-ghost use mathlib.Core.Bool.{cond};
+ghost use mathlib.Core.Bool.{true, cond};
 ghost use Prim.Native.Nat.{ℕ, _+_, _*_, _≤_, _<_};
 ghost use lib.ListN.{length, set};
 ghost use Rattle.std.specs.Of.Vec.{vec-items, vec-len};
@@ -51,6 +51,7 @@ pub(crate) fn settled(mut image: Vec<u8>, blocks: u64, cache: bool) -> Vec<u8>
     ensures face { λ r. ⌜ faces blocks (vec-items r) ≡ faces blocks (vec-items image) ⌝ }
     ensures medium { λ r. ⌜ media blocks (vec-items r) ≡ cond cache (media blocks (vec-items image)) (faces blocks (vec-items image)) ⌝ }
     ensures long { λ r. ⌜ vec-len r ≡ vec-len image ⌝ }
+    ensures same { λ r. ⌜ (cache ≡ true → vec-items r ≡ vec-items image) ⌝ }
 {
     if !cache {
         copy_cells(image.as_mut_slice(), blocks, FACE, MEDIUM);

@@ -1,7 +1,7 @@
 //! One step of the disk, which takes one step's power.
 
 ghost use mathlib.Core.Path.{_≡_};
-ghost use mathlib.Core.Bool.{true, cond, not, _||_};
+ghost use mathlib.Core.Bool.{true, false, cond, not, _||_};
 ghost use mathlib.Core.List.{[]};
 ghost use Prim.Native.Nat.{_<_};
 ghost use lib.ListN.{length};
@@ -10,7 +10,8 @@ ghost use Rattle.ata.specs.Machine.{bytes as holding};
 ghost use Rattle.ata.specs.declared.answer.End.the-variants.{Done, Stopped, Cut};
 ghost use Rattle.disk.specs.Powers.{with-errors};
 ghost use Rattle.disk.specs.Quiet.{still};
-ghost use Rattle.caching.specs.Meaning.{machine-of, Kept, put, Untouched};
+ghost use Rattle.caching.specs.Sides.{faces, media};
+ghost use Rattle.caching.specs.Meaning.{image-of, machine-of, Kept, put, Untouched};
 use crate::caching_disk::CachingDisk;
 use crate::sides::FACE;
 use crate::sides::MEDIUM;
@@ -106,6 +107,7 @@ impl CachingDisk {
     /// Puts each face on its medium.
     pub(crate) fn flush_step(&mut self) -> End
         ensures stepped { λ r. ⌜ step still flushStep (machine-of (now (self .entry))) ≡ ends r [] (machine-of (now (self .exit))) ⌝ }
+        ensures settled { λ r. ⌜ (r ≡ Done → media (now (self .exit) .blocks) (image-of (now (self .exit))) ≡ faces (now (self .exit) .blocks) (image-of (now (self .exit)))) ⌝ }
         ensures kept { λ _. ⌜ Kept (now (self .entry)) (now (self .exit)) ⌝ }
     {
         if !self.take_power() {
@@ -115,21 +117,38 @@ impl CachingDisk {
         End::Done
     }
 
-    /// Switches the cache. Off, each face is put on its medium first.
-    pub(crate) fn cache_step(&mut self, on: bool) -> End
-        ensures stepped { λ r. ⌜ step still (cacheStep on) (machine-of (now (self .entry))) ≡ ends r [] (machine-of (now (self .exit))) ⌝ }
+    /// Switches the cache on.
+    fn on_step(&mut self) -> End
+        ensures stepped { λ r. ⌜ step still (cacheStep true) (machine-of (now (self .entry))) ≡ ends r [] (machine-of (now (self .exit))) ⌝ }
         ensures kept { λ _. ⌜ Kept (now (self .entry)) (now (self .exit)) ⌝ }
     {
         if !self.take_power() {
             return End::Cut;
         }
-        if on {
-            self.caching = true;
-            return End::Done;
-        }
-        copy_cells(self.image.as_mut_slice(), self.blocks, FACE, MEDIUM);
-        self.caching = false;
+        self.caching = true;
         End::Done
+    }
+
+    /// Puts each face on its medium and switches the cache off, in one step.
+    fn off_step(&mut self) -> End
+        ensures stepped { λ r. ⌜ step still (cacheStep false) (machine-of (now (self .entry))) ≡ ends r [] (machine-of (now (self .exit))) ⌝ }
+        ensures kept { λ _. ⌜ Kept (now (self .entry)) (now (self .exit)) ⌝ }
+    {
+        match self.flush_step() {
+            End::Done => {
+                self.caching = false;
+                End::Done
+            }
+            stop => stop,
+        }
+    }
+
+    /// Switches the cache.
+    pub(crate) fn cache_step(&mut self, on: bool) -> End
+        ensures stepped { λ r. ⌜ step still (cacheStep on) (machine-of (now (self .entry))) ≡ ends r [] (machine-of (now (self .exit))) ⌝ }
+        ensures kept { λ _. ⌜ Kept (now (self .entry)) (now (self .exit)) ⌝ }
+    {
+        if on { self.on_step() } else { self.off_step() }
     }
 
     /// Takes a step's power and changes nothing else.

@@ -1,5 +1,6 @@
 use mathlib.Core.Path.{_≡_, sym, _∙_, ap}
 use mathlib.Core.Bool.{Bool, cond}
+use Prim.Native.Nat.{ℕ}
 use native.Mathlib.Omega.{arith}
 use borrow.Author.Needs.{needs}
 use Rattle.std.specs.Of.Vec.{vec-items}
@@ -23,4 +24,5 @@ returns-then-not-cache c =
       medium = side-is 0 n items new slice (vec-items image) 513 is e (c .copy-cells .ensures .copied)
           ∙ ap (λ (v : Bool). cond v (media n (vec-items image)) (faces n (vec-items image))) (sym (c .if-not-cache .taken));
       long = search needs;
+      same = λ h. let z : _≡_ {A = ℕ} 0 1 = cc (c .if-not-cache .taken) in absurd (omega arith);
     }

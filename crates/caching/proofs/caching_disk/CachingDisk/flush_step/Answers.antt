@@ -51,5 +51,6 @@ returns c =
       stepped =
           goes-on (c .args .self .now) d (c .take-power .result) flushStep (c .take-power .ensures .stepped flushStep) (c .if-not-take-power .left)
           ∙ (λ i. ends Done [] (machine-with (record { face = sym face i; medium = sym medium i; caching = d .caching }) (d .power)));
+      settled = λ h. medium ∙ sym face;
       kept = record { blocks = k .blocks; through = k .through; orders = k .orders };
     }

@@ -2,7 +2,7 @@ use mathlib.Core.Path.{_≡_, sym, _∙_, ap}
 use mathlib.Core.List.{List, []}
 use mathlib.Core.Bool.{Bool, true, cond}
 use mathlib.Core.Logic.{∥∥₁-map}
-use Prim.Native.Nat.{ℕ, _<_}
+use Prim.Native.Nat.{_<_}
 use native.Mathlib.Omega.{arith}
 use borrow.Author.Needs.{needs}
 use lib.ListN.{set}
@@ -12,10 +12,10 @@ use Rattle.std.proofs.shelf.Lists.{refilled-is}
 use Rattle.ata.specs.declared.answer.End.the-variants.{Done}
 use Rattle.ata.specs.Machine.{Content, bytes, writeStep, ends}
 use Rattle.disk.specs.Powers.{machine-with}
-use Rattle.caching.specs.Sides.{faces, media}
+use Rattle.caching.specs.Sides.{media}
 use Rattle.caching.specs.Meaning.{image-of}
 use Rattle.caching.proofs.Keeps.{goes-on}
-use Rattle.caching.proofs.Levels.{sinks-as, deep-where-off}
+use Rattle.caching.proofs.Levels.{faces-after, media-after, sinks-as, deep-where-off}
 use Rattle.caching.proofs.caching_disk.CachingDisk.write_step.Needs as need
 
 pub ghost-self : need.ghost-self
@@ -30,10 +30,9 @@ ghost-self c =
     let is : items ≡ new = refilled-is (d .image) new (omega arith) in
     let e = c .as-mut-slice .ensures .value in
     let lt : b < n = omega (arith, c .take-power .ensures .kept .blocks) in
-    let face : faces n items ≡ set (faces n (image-of d)) b x =
-    ap (λ (xs : List ℕ). faces n xs) is ∙ c .write-block .ensures .face n lt ∙ ap (λ (xs : List ℕ). set (faces n xs) b x) e in
-    let medium : media n items ≡ cond (c .writes-deep-deep .result) (set (media n (image-of d)) b x) (media n (image-of d)) =
-    ap (λ (xs : List ℕ). media n xs) is ∙ c .write-block .ensures .medium n lt ∙ ap (λ (xs : List ℕ). cond (c .writes-deep-deep .result) (set (media n xs) b x) (media n xs)) e in
+    let face = faces-after n items new slice (image-of d) b x is e (c .write-block .ensures .face n lt) in
+    let deep = c .writes-deep-deep .result in
+    let medium = media-after n items new slice (image-of d) b x deep is e (c .write-block .ensures .medium n lt) in
     let lit : d .power .lit ≡ true = c .take-power .ensures .lit (c .if-not-take-power .left) ∙ c .pre .lit in (
       search needs,
       (
@@ -45,7 +44,7 @@ ghost-self c =
                 ∥∥₁-map (d .level h)
                 (λ l.
                 medium
-                ∙ ap (λ (v : Bool). cond v (set (media n (image-of d)) b x) (media n (image-of d))) (deep-where-off (c .args .through) (d .caching) (d .power .lit) (c .writes-deep-deep .result) (c .writes-deep-deep .ensures) lit h)
+                ∙ ap (λ (v : Bool). cond v (set (media n (image-of d)) b x) (media n (image-of d))) (deep-where-off (c .args .through) (d .caching) (d .power .lit) deep (c .writes-deep-deep .ensures) lit h)
                 ∙ ap (λ (z : List Content). set z b x) l ∙ sym face),
             tt,
           ),
@@ -67,10 +66,9 @@ returns c =
     let e = c .as-mut-slice .ensures .value in
     let lt : b < n = omega (arith, c .take-power .ensures .kept .blocks) in
     let deep = c .writes-deep-deep .result in
-    let face : faces n items ≡ set (faces n (image-of d)) b x =
-    ap (λ (xs : List ℕ). faces n xs) is ∙ c .write-block .ensures .face n lt ∙ ap (λ (xs : List ℕ). set (faces n xs) b x) e in
+    let face = faces-after n items new slice (image-of d) b x is e (c .write-block .ensures .face n lt) in
     let medium =
-    ap (λ (xs : List ℕ). media n xs) is ∙ c .write-block .ensures .medium n lt ∙ ap (λ (xs : List ℕ). cond deep (set (media n xs) b x) (media n xs)) e
+    media-after n items new slice (image-of d) b x deep is e (c .write-block .ensures .medium n lt)
     ∙ sinks-as t (d .caching) deep (set (media n (image-of d)) b x) (media n (image-of d)) (c .writes-deep-deep .ensures) in
     let k = c .take-power .ensures .kept in
     record {
