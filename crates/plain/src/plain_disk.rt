@@ -5,7 +5,7 @@ ghost use Prim.Native.Nat.{_/_, _^_, _<_, min};
 ghost use Rattle.std.specs.Of.Vec.{vec-len};
 use disk::Power;
 
-/// A disk over an image: 513 bytes a block, a mark and 512 bytes of content. Bytes past the last block are never touched.
+/// A disk over an image: 513 bytes a block, a mark and 512 bytes of content. Bytes past the last block are no part of the disk.
 #[derive(Drop)]
 pub struct PlainDisk {
     pub(crate) image: Vec<u8>,
