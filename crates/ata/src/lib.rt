@@ -1,5 +1,7 @@
 //! What an ATA drive is: task files go in, answers come out, and every kind of drive keeps one meaning.
 
+#![tactic(auto)]
+
 mod answer;
 mod drive;
 mod laws;

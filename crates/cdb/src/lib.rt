@@ -1,5 +1,7 @@
 //! SCSI command descriptor blocks: their lengths, their fields, and the commands that they name.
 
+#![tactic(auto)]
+
 mod command;
 mod form;
 mod operation;

@@ -1,5 +1,7 @@
 //! What disks over an image in memory share.
 
+#![tactic(auto)]
+
 mod answer;
 mod cell;
 mod copy;

@@ -1,5 +1,7 @@
 //! What a host brings to the bay: the CDBs of commands, and the images of new disks.
 
+#![tactic(auto)]
+
 mod build;
 mod image;
 

@@ -1,5 +1,7 @@
 //! The plain disk: an image in memory of 513 bytes a block, whose writes are on the medium at once.
 
+#![tactic(auto)]
+
 mod commands;
 mod drive;
 mod make;

@@ -1,5 +1,7 @@
 //! A lab session's script: its acts, how a line reads as one, and what the acts are made of.
 
+#![tactic(auto)]
+
 mod act;
 mod calls;
 mod disks;

@@ -1,5 +1,7 @@
 //! What the unit reports: sense cases and refusals, the result table and the sense data.
 
+#![tactic(auto)]
+
 mod c;
 mod case;
 mod data;

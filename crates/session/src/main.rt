@@ -1,5 +1,7 @@
 //! Runs the session on the standard input, and prints each act with what happened.
 
+#![tactic(auto)]
+
 mod bay;
 mod counts;
 mod rows;

@@ -1,5 +1,7 @@
 //! One SCSI unit over any ATA drive, whose failed commands hand out slips, and the run sheet on which slips are entered.
 
+#![tactic(auto)]
+
 mod attached;
 mod replies;
 mod sheet;

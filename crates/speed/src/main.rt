@@ -4,6 +4,8 @@
 //! A turn first moves a byte of its target into its source, so that no turn does what the one before it did.
 //! What is measured goes to the standard error; the standard output stays empty.
 
+#![tactic(auto)]
+
 mod turns;
 
 use ata::Drive;

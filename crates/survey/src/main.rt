@@ -1,5 +1,7 @@
 //! Sends every command to every kind of drive and prints the answers, then cuts power at every step of a write.
 
+#![tactic(auto)]
+
 mod cuts;
 mod every;
 

@@ -1,5 +1,7 @@
 //! Transfers between a host's buffers and any drive, in pieces that the drive takes.
 
+#![tactic(auto)]
+
 mod address;
 mod ask;
 mod counts;

@@ -1,5 +1,7 @@
 //! Tests of the library on examples.
 
+#![tactic(auto)]
+
 #[cfg(test)]
 mod bad_line;
 #[cfg(test)]

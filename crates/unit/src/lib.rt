@@ -1,5 +1,7 @@
 //! One SCSI unit over any ATA drive: attach, command, detach.
 
+#![tactic(auto)]
+
 mod attach;
 mod capacity;
 mod execute;
