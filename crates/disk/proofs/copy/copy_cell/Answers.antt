@@ -17,5 +17,5 @@ returns c =
     let l : inside image to ≡ true = grind (arith, nat_tests) in
     record {
       was = simp (h, l);
-      content = c.copy-within.ensures.after ∙ ap (λ (k : ℕ). paste image to (drop from image) k) n ∙ append_assoc (take to image) (take 513 (drop from image)) (drop (to + 513) image);
+      content = c.copy_within.ensures.after ∙ ap (λ (k : ℕ). paste image to (drop from image) k) n ∙ append_assoc (take to image) (take 513 (drop from image)) (drop (to + 513) image);
     }

@@ -11,11 +11,11 @@ pub returns : goal.returns
 returns g c =
     record {
       talk = λ b.
-          subst (λ (ks : List Ask). Held g.D.Drive.does ks c.args.drive.now b c.args.tally.now c.ask-plain.new.drive b c.ask-plain.new.tally c.ask-plain.result)
+          subst (λ (ks : List Ask). Held g.D.Drive.does ks c.args.drive.now b c.args.tally.now c.ask_plain.new.drive b c.ask_plain.new.tally c.ask_plain.result)
           (ap (λ (t : TaskFile). plain_ask t ∷ []) c.flush_task.ensures ∙ sym (flush_some c.args.width c.args.wanted c.args.count c.if-not-wanted.false c.if-count-eq0.false))
-          (held_one g.D.Drive.does (plain_ask c.flush_task.result) c.args.drive.now c.ask-plain.new.drive b [] [] b c.args.tally.now c.ask-plain.new.tally c.ask-plain.result c.ask-plain.ensures.talk refl refl);
-      few = omega (arith, c.ask-plain.ensures.commands);
-      bytes = c.ask-plain.ensures.bytes;
+          (held_one g.D.Drive.does (plain_ask c.flush_task.result) c.args.drive.now c.ask_plain.new.drive b [] [] b c.args.tally.now c.ask_plain.new.tally c.ask_plain.result c.ask_plain.ensures.talk refl refl);
+      few = omega (arith, c.ask_plain.ensures.commands);
+      bytes = c.ask_plain.ensures.bytes;
     }
 
 pub returns-then-not-wanted : goal.returns-then-not-wanted

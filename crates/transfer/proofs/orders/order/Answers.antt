@@ -7,6 +7,6 @@ use Rattle.transfer.proofs.orders.order.Goals as goal
 
 pub returns : goal.returns
 returns g c b =
-    subst (λ (p : Tally). Held g.D.Drive.does (plain_ask c.args.task ∷ []) c.args.drive.now b p c.ask-plain-verdict.new.drive b c.ask-plain-verdict.new.tally c.ask-plain-verdict.result) c.new-tally.ensures
-    (held_one g.D.Drive.does (plain_ask c.args.task) c.args.drive.now c.ask-plain-verdict.new.drive b [] [] b c.new-tally.result c.ask-plain-verdict.new.tally c.ask-plain-verdict.result
-    c.ask-plain-verdict.ensures.talk refl refl)
+    subst (λ (p : Tally). Held g.D.Drive.does (plain_ask c.args.task ∷ []) c.args.drive.now b p c.ask_plain-verdict.new.drive b c.ask_plain-verdict.new.tally c.ask_plain-verdict.result) c.new-tally.ensures
+    (held_one g.D.Drive.does (plain_ask c.args.task) c.args.drive.now c.ask_plain-verdict.new.drive b [] [] b c.new-tally.result c.ask_plain-verdict.new.tally c.ask_plain-verdict.result
+    c.ask_plain-verdict.ensures.talk refl refl)

@@ -6,20 +6,20 @@ use Rattle.transfer.specs.Asks.{read_ask, pieces, flush_beside}
 use Rattle.transfer.proofs.Talks.{held_then, held_passed}
 use Rattle.transfer.proofs.reading.read_by.Goals as goal
 
-pub returns-in-err-flush-beside : goal.returns-in-err-flush-beside
-returns-in-err-flush-beside g c =
-    let p = err_from_is_err_and c.from-residual.result c.from-residual.ensures.1 in
+pub returns-in_err-flush_beside : goal.returns-in_err-flush_beside
+returns-in_err-flush_beside g c =
+    let p = err_from_is_err_and c.from_residual.result c.from_residual.ensures.1 in
     held_passed g.D.Drive.does (flush_beside c.args.width c.args.fua (length c.args.data.now / 512)) (pieces (read_ask c.args.width) (piece c.args.width (g.D.Drive.meaning c.args.drive.now).most) c.args.block (length c.args.data.now / 512) 0)
-    c.args.drive.now c.flush_beside.new.drive c.args.data.now c.args.data.now c.args.tally.now c.flush_beside.new.tally c.flush_beside.result c.from-residual.result _ c.in-err-flush-beside.was (p.1 ∙ ap Err p.2)
+    c.args.drive.now c.flush_beside.new.drive c.args.data.now c.args.data.now c.args.tally.now c.flush_beside.new.tally c.flush_beside.result c.from_residual.result _ c.in_err-flush_beside.was (p.1 ∙ ap Err p.2)
     (c.flush_beside.ensures.talk c.args.data.now)
 
 pub returns : goal.returns
 returns g c =
-    let size : c.piece-size-size.result ≡ piece c.args.width (g.D.Drive.meaning c.args.drive.now).most =
-    c.piece-size-size.ensures.value ∙ ap (piece c.args.width) c.most.ensures in
+    let size : c.piece_size-size.result ≡ piece c.args.width (g.D.Drive.meaning c.args.drive.now).most =
+    c.piece_size-size.ensures.value ∙ ap (piece c.args.width) c.most.ensures in
     held_then g.D.Drive.does (flush_beside c.args.width c.args.fua (length c.args.data.now / 512)) (pieces (read_ask c.args.width) (piece c.args.width (g.D.Drive.meaning c.args.drive.now).most) c.args.block (length c.args.data.now / 512) 0)
-    c.args.drive.now c.flush_beside.new.drive c.read-pieces.new.drive c.args.data.now c.args.data.now c.read-pieces.new.data c.args.tally.now c.flush_beside.new.tally c.read-pieces.new.tally
-    c.flush_beside.result c.read-pieces.result _ c.in-ok-flush-beside.was
+    c.args.drive.now c.flush_beside.new.drive c.read_pieces.new.drive c.args.data.now c.args.data.now c.read_pieces.new.data c.args.tally.now c.flush_beside.new.tally c.read_pieces.new.tally
+    c.flush_beside.result c.read_pieces.result _ c.in_ok-flush_beside.was
     (c.flush_beside.ensures.talk c.args.data.now)
-    (subst (λ (t : ℕ). Held g.D.Drive.does (pieces (read_ask c.args.width) t c.args.block (length c.args.data.now / 512) 0) c.flush_beside.new.drive c.args.data.now c.flush_beside.new.tally c.read-pieces.new.drive c.read-pieces.new.data c.read-pieces.new.tally c.read-pieces.result) size
-    c.read-pieces.ensures)
+    (subst (λ (t : ℕ). Held g.D.Drive.does (pieces (read_ask c.args.width) t c.args.block (length c.args.data.now / 512) 0) c.flush_beside.new.drive c.args.data.now c.flush_beside.new.tally c.read_pieces.new.drive c.read_pieces.new.data c.read_pieces.new.tally c.read_pieces.result) size
+    c.read_pieces.ensures)

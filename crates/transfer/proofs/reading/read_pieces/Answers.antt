@@ -7,20 +7,20 @@ use Rattle.transfer.proofs.Talks.{held_none, asked_more, asked_stop}
 use Rattle.transfer.proofs.Cuts.{pieces_none, pieces_more}
 use Rattle.transfer.proofs.reading.read_pieces.Goals as goal
 
-pub returns-in-err-ask-read : goal.returns-in-err-ask-read
-returns-in-err-ask-read g c =
-    let p = err_from_is_err_and c.from-residual.result c.from-residual.ensures.1 in
+pub returns-in_err-ask_read : goal.returns-in_err-ask_read
+returns-in_err-ask_read g c =
+    let p = err_from_is_err_and c.from_residual.result c.from_residual.ensures.1 in
     let done = c.loop-done.done in
     let some = c.min-some.result in
     let buffer = c.loop-done.data in
-    let back = c.ask-read.new.into in
+    let back = c.ask_read.new.into in
     let wide : 512 * done + 512 * some - 512 * done ≡ 512 * some = omega arith in
     let cut = pieces_more (read_ask c.args.width) c.args.size (c.args.block + done) (length c.args.data.now / 512 - done) (512 * done) some _ _ _ c.requires.some (omega arith) c.min-some.ensures refl refl refl in
     c.loop-done.invariant.3 _ _ _ _
-    (subst (λ (ks : List Ask). Held g.D.Drive.does ks c.loop-done.drive buffer c.loop-done.tally c.ask-read.new.drive (put_mid (512 * done) (512 * done + 512 * some - 512 * done) buffer back) c.ask-read.new.tally c.from-residual.result) (sym cut)
-    (asked_stop g.D.Drive.does (read_ask c.args.width (c.args.block + done) some (512 * done)) _ c.loop-done.drive c.ask-read.new.drive buffer back _ _ _ _ _ (c.ask-read.ensures.talk (512 * done))
+    (subst (λ (ks : List Ask). Held g.D.Drive.does ks c.loop-done.drive buffer c.loop-done.tally c.ask_read.new.drive (put_mid (512 * done) (512 * done + 512 * some - 512 * done) buffer back) c.ask_read.new.tally c.from_residual.result) (sym cut)
+    (asked_stop g.D.Drive.does (read_ask c.args.width (c.args.block + done) some (512 * done)) _ c.loop-done.drive c.ask_read.new.drive buffer back _ _ _ _ _ (c.ask_read.ensures.talk (512 * done))
     (ap (λ (k : ℕ). take k (drop (512 * done) buffer)) wide) (ap (λ (k : ℕ). put_mid (512 * done) k buffer back) wide)
-    _ _ c.in-err-ask-read.was (p.1 ∙ ap Err p.2)))
+    _ _ c.in_err-ask_read.was (p.1 ∙ ap Err p.2)))
 
 pub loop-done-preserved : goal.loop-done-preserved
 loop-done-preserved g c =
@@ -28,9 +28,9 @@ loop-done-preserved g c =
     let some = c.min-some.result in
     let count = length c.args.data.now / 512 in
     let buffer = c.loop-done.data in
-    let back = c.ask-read.new.into in
-    let commands = c.ask-read.ensures.commands in
-    let bytes = c.ask-read.ensures.bytes in
+    let back = c.ask_read.new.into in
+    let commands = c.ask_read.ensures.commands in
+    let bytes = c.ask_read.ensures.bytes in
     let wide : 512 * done + 512 * some - 512 * done ≡ 512 * some = omega arith in
     let cut = pieces_more (read_ask c.args.width) c.args.size (c.args.block + done) (count - done) (512 * done) some (c.args.block + (done + some)) (count - (done + some)) (512 * (done + some)) c.requires.some (omega arith) c.min-some.ensures (omega arith) (omega arith) (omega arith) in (
       omega arith,
@@ -39,9 +39,9 @@ loop-done-preserved g c =
       λ e end q r h.
           c.loop-done.invariant.3 e end q r
           (subst (λ (ks : List Ask). Held g.D.Drive.does ks c.loop-done.drive buffer c.loop-done.tally e end q r) (sym cut)
-          (asked_more g.D.Drive.does (read_ask c.args.width (c.args.block + done) some (512 * done)) _ c.loop-done.drive c.ask-read.new.drive buffer back _ _ _ _ _ (c.ask-read.ensures.talk (512 * done))
+          (asked_more g.D.Drive.does (read_ask c.args.width (c.args.block + done) some (512 * done)) _ c.loop-done.drive c.ask_read.new.drive buffer back _ _ _ _ _ (c.ask_read.ensures.talk (512 * done))
           (ap (λ (k : ℕ). take k (drop (512 * done) buffer)) wide) (ap (λ (k : ℕ). put_mid (512 * done) k buffer back) wide)
-          _ c.in-ok-ask-read.was e end q r h)),
+          _ c.in_ok-ask_read.was e end q r h)),
     )
 
 pub returns : goal.returns
