@@ -13,13 +13,13 @@ loop-i-preserved c =
     let n = c.args.blocks in
     let i = c.loop-i.i in
     let image = c.loop-i.image in
-    let new = c.copy-cell.new.image in
+    let new = c.copy_cell.new.image in
     let s = c.requires.1 in
     let long : 1026 * n ≤ length image = omega arith in
     let p = s.from_fits in
     let q = s.to_fits in
     let e : new ≡ with_copy image (1026 * i + from) (1026 * i + to) =
-    copy_done image new (1026 * i + from) (1026 * i + to) c.copy-cell.result (omega arith) (omega arith) c.copy-cell.ensures.was c.copy-cell.ensures.content in (
+    copy_done image new (1026 * i + from) (1026 * i + to) c.copy_cell.result (omega arith) (omega arith) c.copy_cell.ensures.was c.copy_cell.ensures.content in (
       from_kept from to n image new i s long c.loop-i-test.true e ∙ c.loop-i.invariant.0,
       to_more from to n c.args.image.now image new i s long c.loop-i-test.true e c.loop-i.invariant.0 c.loop-i.invariant.1,
     )

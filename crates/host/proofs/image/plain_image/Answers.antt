@@ -8,13 +8,13 @@ use Rattle.host.proofs.image.plain_image.Goals as goal
 pub returns : goal.returns
 returns c =
     let bad = c.args.bad.now in
-    let blank : vec_items c.in-ok-image.image ≡ replicate (513 * c.args.blocks) 0 = search rules in
-    let long : vec_len c.in-ok-image.image ≡ 513 * c.args.blocks = search rules in
+    let blank : vec_items c.in_ok-image.image ≡ replicate (513 * c.args.blocks) 0 = search rules in
+    let long : vec_len c.in_ok-image.image ≡ 513 * c.args.blocks = search rules in
     let last : c.mark.new.image ≡ plain_image c.args.blocks bad =
-    c.mark.ensures ∙ ap (λ xs. marked 513 0 xs bad) (c.as-mut-slice.ensures.value ∙ blank) in
-    let fits : length c.mark.new.image ≡ vec_len c.in-ok-image.image =
+    c.mark.ensures ∙ ap (λ xs. marked 513 0 xs bad) (c.as_mut_slice.ensures.value ∙ blank) in
+    let fits : length c.mark.new.image ≡ vec_len c.in_ok-image.image =
     ap length last ∙ length_plain c.args.blocks bad ∙ sym long in
-    let bytes = take_at c.mark.new.image (drop (length c.mark.new.image) c.in-ok-image.image.items) (vec_len c.in-ok-image.image) fits ∙ last in
+    let bytes = take_at c.mark.new.image (drop (length c.mark.new.image) c.in_ok-image.image.items) (vec_len c.in_ok-image.image) fits ∙ last in
     record {
       bytes = bytes;
       whole = long;

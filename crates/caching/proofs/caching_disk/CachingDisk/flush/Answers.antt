@@ -9,9 +9,9 @@ use Rattle.caching.proofs.caching_disk.CachingDisk.flush.Goals as goal
 pub returns : goal.returns
 returns c =
     let d = c.args.self.now in
-    let e = c.flush-step.new.self in
-    let k = c.flush-step.ensures.kept in
+    let e = c.flush_step.new.self in
+    let k = c.flush_step.ensures.kept in
     λ b l.
-    ap (λ (x : Answer). gives x (state_of e) (room l)) c.answer-for.ensures
-    ∙ ran_one d e c.count-order.new.self flush_step c.flush-step.result (room l)
-    (record { counted = c.count-order.ensures; blocks = k.blocks; through = k.through; orders = k.orders }) c.flush-step.ensures.stepped
+    ap (λ (x : Answer). gives x (state_of e) (room l)) c.answer_for.ensures
+    ∙ ran_one d e c.count_order.new.self flush_step c.flush_step.result (room l)
+    (record { counted = c.count_order.ensures; blocks = k.blocks; through = k.through; orders = k.orders }) c.flush_step.ensures.stepped

@@ -9,22 +9,22 @@ use Rattle.caching.proofs.Keeps.{goes_on}
 use Rattle.caching.specs.Levels.{side_is}
 use Rattle.caching.proofs.caching_disk.CachingDisk.flush_step.Goals as goal
 
-pub invariant-of-self : goal.invariant-of-self
-invariant-of-self c =
-    let d = c.take-power.new.self in
+pub invariant_of-self : goal.invariant_of-self
+invariant_of-self c =
+    let d = c.take_power.new.self in
     let n = d.blocks in
-    let new = c.copy-cells.new.image in
-    let slice = c.as-mut-slice.result.now in
+    let new = c.copy_cells.new.image in
+    let slice = c.as_mut_slice.result.now in
     let items = vec_items (with_items d.image new) in
     let is : items ≡ new = with_items_is d.image new (omega arith) in
-    let e = c.as-mut-slice.ensures.value in (
+    let e = c.as_mut_slice.ensures.value in (
       search rules,
       (
         search rules,
         (
           search rules,
           (
-            λ h. ∣ side_is 0 n items new slice (image_of d) 513 is e c.copy-cells.ensures.copied ∙ sym (side_is 513 n items new slice (image_of d) 513 is e c.copy-cells.ensures.kept) ∣₁,
+            λ h. ∣ side_is 0 n items new slice (image_of d) 513 is e c.copy_cells.ensures.copied ∙ sym (side_is 513 n items new slice (image_of d) 513 is e c.copy_cells.ensures.kept) ∣₁,
             tt,
           ),
         ),
@@ -33,19 +33,19 @@ invariant-of-self c =
 
 pub returns : goal.returns
 returns c =
-    let d = c.take-power.new.self in
+    let d = c.take_power.new.self in
     let n = d.blocks in
-    let new = c.copy-cells.new.image in
-    let slice = c.as-mut-slice.result.now in
+    let new = c.copy_cells.new.image in
+    let slice = c.as_mut_slice.result.now in
     let items = vec_items (with_items d.image new) in
     let is : items ≡ new = with_items_is d.image new (omega arith) in
-    let e = c.as-mut-slice.ensures.value in
-    let face = side_is 513 n items new slice (image_of d) 513 is e c.copy-cells.ensures.kept in
-    let medium = side_is 0 n items new slice (image_of d) 513 is e c.copy-cells.ensures.copied in
-    let k = c.take-power.ensures.kept in
+    let e = c.as_mut_slice.ensures.value in
+    let face = side_is 513 n items new slice (image_of d) 513 is e c.copy_cells.ensures.kept in
+    let medium = side_is 0 n items new slice (image_of d) 513 is e c.copy_cells.ensures.copied in
+    let k = c.take_power.ensures.kept in
     record {
       stepped =
-          goes_on c.args.self.now d c.take-power.result flush_step (c.take-power.ensures.stepped flush_step) c.if-not-take-power.false
+          goes_on c.args.self.now d c.take_power.result flush_step (c.take_power.ensures.stepped flush_step) c.if-not-take_power.false
           ∙ (λ i. ends Done [] (machine_with (record { face = sym face i; medium = sym medium i; caching = d.caching }) d.power));
       settled = λ h. medium ∙ sym face;
       kept = record { blocks = k.blocks; through = k.through; orders = k.orders };

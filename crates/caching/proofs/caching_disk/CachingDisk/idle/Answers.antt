@@ -9,9 +9,9 @@ use Rattle.caching.proofs.caching_disk.CachingDisk.idle.Goals as goal
 pub returns : goal.returns
 returns c =
     let d = c.args.self.now in
-    let e = c.idle-step.new.self in
-    let k = c.idle-step.ensures.kept in
+    let e = c.idle_step.new.self in
+    let k = c.idle_step.ensures.kept in
     λ b l.
-    ap (λ (x : Answer). gives x (state_of e) (room l)) c.answer-for.ensures
-    ∙ ran_one d e c.count-order.new.self idle_step c.idle-step.result (room l)
-    (record { counted = c.count-order.ensures; blocks = k.blocks; through = k.through; orders = k.orders }) c.idle-step.ensures.stepped
+    ap (λ (x : Answer). gives x (state_of e) (room l)) c.answer_for.ensures
+    ∙ ran_one d e c.count_order.new.self idle_step c.idle_step.result (room l)
+    (record { counted = c.count_order.ensures; blocks = k.blocks; through = k.through; orders = k.orders }) c.idle_step.ensures.stepped

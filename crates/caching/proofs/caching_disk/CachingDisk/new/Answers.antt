@@ -4,8 +4,8 @@ use Rattle.caching.specs.Sides.{faces, media}
 use Rattle.caching.specs.Levels.{level_at_first}
 use Rattle.caching.proofs.caching_disk.CachingDisk.new.Goals as goal
 
-pub invariant-of-result : goal.invariant-of-result
-invariant-of-result c =
+pub invariant_of-result : goal.invariant_of-result
+invariant_of-result c =
     let n = c.min-blocks.result in
     let image = vec_items c.args.image in
     let items = vec_items c.settled.result in (

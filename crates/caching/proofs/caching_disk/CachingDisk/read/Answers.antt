@@ -20,13 +20,13 @@ returns-in-Some c =
 pub returns : goal.returns
 returns c =
     let d = c.args.self.now in
-    let e = c.run-reads.new.self in
+    let e = c.run_reads.new.self in
     let was = c.args.into.now in
     let xs = reads c.args.block c.args.count in
-    let a = c.in-default.ensures.answer in
-    let k = c.run-reads.ensures.kept in
-    ap (λ (x : Answer). gives x (state_of e) c.run-reads.new.into) c.answer-for.ensures
-    ∙ ran_filled d e c.admit.new.self xs c.run-reads.result was c.run-reads.new.into
-    (record { counted = a.counted; blocks = k.blocks; through = k.through; orders = k.orders }) c.run-reads.ensures.ran
+    let a = c.in_default.ensures.answer in
+    let k = c.run_reads.ensures.kept in
+    ap (λ (x : Answer). gives x (state_of e) c.run_reads.new.into) c.answer_for.ensures
+    ∙ ran_filled d e c.admit.new.self xs c.run_reads.result was c.run_reads.new.into
+    (record { counted = a.counted; blocks = k.blocks; through = k.through; orders = k.orders }) c.run_reads.ensures.ran
     ∙ sym (moves_run (state_of d) c.args.block c.args.count (ltb (length was) (512 * c.args.count)) was (ran (state_of d) was (steps quiet xs (machine_of d))) a.few a.long
     (omega (arith, a.within, length_contents 1026 513 d.blocks (image_of d))))

@@ -21,36 +21,36 @@ loop-i-preserved c =
     let n = c.args.count in
     let i = c.loop-i.i in
     let out = c.loop-i.into in
-    let new = c.read-step.new.into in
+    let new = c.read_step.new.into in
     let k = 512 * i + 512 - 512 * i in
     let in-it : 512 * i ≤ length out = omega arith in
     let front : take (512 * (i + 1)) (put_mid (512 * i) k out new) ≡ take (512 * i) out ++ new = take-put_mid (512 * i) k out new (512 * (i + 1)) (omega arith) in-it in (
-      subst (λ (g : List ℕ). Reached (reads b n) (machine_of c.args.self.now) (i + 1) g (machine_of c.read-step.new.self)) (sym front)
-          (reached_more (reads b n) (machine_of c.args.self.now) i (take (512 * i) out) (machine_of c.loop-i.self) (read_step (b + i)) new (machine_of c.read-step.new.self)
+      subst (λ (g : List ℕ). Reached (reads b n) (machine_of c.args.self.now) (i + 1) g (machine_of c.read_step.new.self)) (sym front)
+          (reached_more (reads b n) (machine_of c.args.self.now) i (take (512 * i) out) (machine_of c.loop-i.self) (read_step (b + i)) new (machine_of c.read_step.new.self)
           c.loop-i.invariant.0 (omega (arith, length_reads b n)) (getD_reads b n i c.loop-i-test.true) c.in-Done.ensures.stepped),
       rest_kept i k out c.args.into.now new (omega arith) in-it (omega arith) c.loop-i.invariant.1,
-      kept_on c.args.self.now c.loop-i.self c.read-step.new.self c.loop-i.invariant.2 c.read-step.ensures.kept,
+      kept_on c.args.self.now c.loop-i.self c.read_step.new.self c.loop-i.invariant.2 c.read_step.ensures.kept,
     )
 
-pub returns-in-default : goal.returns-in-default
-returns-in-default c =
+pub returns-in_default : goal.returns-in_default
+returns-in_default c =
     let b = c.args.block in
     let n = c.args.count in
     let i = c.loop-i.i in
     let out = c.loop-i.into in
-    let new = c.read-step.new.into in
-    let z = c.read-step.result in
+    let new = c.read_step.new.into in
+    let z = c.read_step.result in
     let k = 512 * i + 512 - 512 * i in
     let g = take (512 * i) out in
     let run = steps quiet (reads b n) (machine_of c.args.self.now) in
-    let stepped = c.read-step.ensures.stepped ∙ ap (λ (ys : List ℕ). ends z ys (machine_of c.read-step.new.self)) (put_none z new c.in-default.not-Done) in
+    let stepped = c.read_step.ensures.stepped ∙ ap (λ (ys : List ℕ). ends z ys (machine_of c.read_step.new.self)) (put_none z new c.in_default.not-Done) in
     record {
-      ran = filled run z g (machine_of c.read-step.new.self) c.args.into.now (put_mid (512 * i) k out new)
-          (reached_end (reads b n) (machine_of c.args.self.now) i g (machine_of c.loop-i.self) (read_step (b + i)) z (machine_of c.read-step.new.self)
-          c.loop-i.invariant.0 (omega (arith, length_reads b n)) (getD_reads b n i c.loop-i-test.true) stepped c.in-default.not-Done)
-          (ap (λ (ys : List ℕ). put_mid (512 * i) k out ys) (untouched_is z _ new c.in-default.not-Done c.read-step.ensures.untouched)
+      ran = filled run z g (machine_of c.read_step.new.self) c.args.into.now (put_mid (512 * i) k out new)
+          (reached_end (reads b n) (machine_of c.args.self.now) i g (machine_of c.loop-i.self) (read_step (b + i)) z (machine_of c.read_step.new.self)
+          c.loop-i.invariant.0 (omega (arith, length_reads b n)) (getD_reads b n i c.loop-i-test.true) stepped c.in_default.not-Done)
+          (ap (λ (ys : List ℕ). put_mid (512 * i) k out ys) (untouched_is z _ new c.in_default.not-Done c.read_step.ensures.untouched)
           ∙ put_same (512 * i) k out ∙ over_front (512 * i) out c.args.into.now (omega arith) c.loop-i.invariant.1);
-      kept = kept_on c.args.self.now c.loop-i.self c.read-step.new.self c.loop-i.invariant.2 c.read-step.ensures.kept;
+      kept = kept_on c.args.self.now c.loop-i.self c.read_step.new.self c.loop-i.invariant.2 c.read_step.ensures.kept;
     }
 
 pub returns : goal.returns

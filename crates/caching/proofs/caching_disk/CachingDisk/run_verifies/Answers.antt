@@ -15,21 +15,21 @@ loop-i-preserved c =
     let b = c.args.block in
     let n = c.args.count in
     let i = c.loop-i.i in (
-      reached_more (verifies b n) (machine_of c.args.self.now) i [] (machine_of c.loop-i.self) (verify_step (b + i)) [] (machine_of c.verify-step.new.self)
+      reached_more (verifies b n) (machine_of c.args.self.now) i [] (machine_of c.loop-i.self) (verify_step (b + i)) [] (machine_of c.verify_step.new.self)
           c.loop-i.invariant.0 (omega (arith, length_verifies b n)) (getD_verifies b n i c.loop-i-test.true) c.in-Done.ensures.stepped,
-      kept_on c.args.self.now c.loop-i.self c.verify-step.new.self c.loop-i.invariant.1 c.verify-step.ensures.kept,
+      kept_on c.args.self.now c.loop-i.self c.verify_step.new.self c.loop-i.invariant.1 c.verify_step.ensures.kept,
     )
 
-pub returns-in-default : goal.returns-in-default
-returns-in-default c =
+pub returns-in_default : goal.returns-in_default
+returns-in_default c =
     let b = c.args.block in
     let n = c.args.count in
     let i = c.loop-i.i in
     record {
       ran =
-          reached_end (verifies b n) (machine_of c.args.self.now) i [] (machine_of c.loop-i.self) (verify_step (b + i)) c.verify-step.result (machine_of c.verify-step.new.self)
-          c.loop-i.invariant.0 (omega (arith, length_verifies b n)) (getD_verifies b n i c.loop-i-test.true) c.verify-step.ensures.stepped c.in-default.not-Done;
-      kept = kept_on c.args.self.now c.loop-i.self c.verify-step.new.self c.loop-i.invariant.1 c.verify-step.ensures.kept;
+          reached_end (verifies b n) (machine_of c.args.self.now) i [] (machine_of c.loop-i.self) (verify_step (b + i)) c.verify_step.result (machine_of c.verify_step.new.self)
+          c.loop-i.invariant.0 (omega (arith, length_verifies b n)) (getD_verifies b n i c.loop-i-test.true) c.verify_step.ensures.stepped c.in_default.not-Done;
+      kept = kept_on c.args.self.now c.loop-i.self c.verify_step.new.self c.loop-i.invariant.1 c.verify_step.ensures.kept;
     }
 
 pub returns : goal.returns

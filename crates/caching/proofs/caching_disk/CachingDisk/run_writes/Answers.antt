@@ -20,15 +20,15 @@ loop-i-preserved c =
     let i = c.loop-i.i in
     let xs = c.args.from.now in
     let k : 512 ≡ 512 * i + 512 - 512 * i = omega arith in (
-      reached_more (writes t b (blocks n xs)) (machine_of c.args.self.now) i [] (machine_of c.loop-i.self) (write_step t (b + i) (bytes (take 512 (drop (512 * i) xs)))) [] (machine_of c.write-step.new.self)
+      reached_more (writes t b (blocks n xs)) (machine_of c.args.self.now) i [] (machine_of c.loop-i.self) (write_step t (b + i) (bytes (take 512 (drop (512 * i) xs)))) [] (machine_of c.write_step.new.self)
           c.loop-i.invariant.0 (omega (arith, length_writes t b n xs)) (getD_writes t b n xs i c.loop-i-test.true)
           (ap (λ (z : ℕ). step still (write_step t (b + i) (bytes (take z (drop (512 * i) xs)))) (machine_of c.loop-i.self)) k ∙ c.in-Done.ensures.stepped),
-      kept_on c.args.self.now c.loop-i.self c.write-step.new.self c.loop-i.invariant.1 c.write-step.ensures.kept,
+      kept_on c.args.self.now c.loop-i.self c.write_step.new.self c.loop-i.invariant.1 c.write_step.ensures.kept,
       c.in-Done.ensures.lit refl,
     )
 
-pub returns-in-default : goal.returns-in-default
-returns-in-default c =
+pub returns-in_default : goal.returns-in_default
+returns-in_default c =
     let t = c.args.through in
     let b = c.args.block in
     let n = c.args.count in
@@ -37,10 +37,10 @@ returns-in-default c =
     let k : 512 ≡ 512 * i + 512 - 512 * i = omega arith in
     record {
       ran =
-          reached_end (writes t b (blocks n xs)) (machine_of c.args.self.now) i [] (machine_of c.loop-i.self) (write_step t (b + i) (bytes (take 512 (drop (512 * i) xs)))) c.write-step.result (machine_of c.write-step.new.self)
+          reached_end (writes t b (blocks n xs)) (machine_of c.args.self.now) i [] (machine_of c.loop-i.self) (write_step t (b + i) (bytes (take 512 (drop (512 * i) xs)))) c.write_step.result (machine_of c.write_step.new.self)
           c.loop-i.invariant.0 (omega (arith, length_writes t b n xs)) (getD_writes t b n xs i c.loop-i-test.true)
-          (ap (λ (z : ℕ). step still (write_step t (b + i) (bytes (take z (drop (512 * i) xs)))) (machine_of c.loop-i.self)) k ∙ c.write-step.ensures.stepped) c.in-default.not-Done;
-      kept = kept_on c.args.self.now c.loop-i.self c.write-step.new.self c.loop-i.invariant.1 c.write-step.ensures.kept;
+          (ap (λ (z : ℕ). step still (write_step t (b + i) (bytes (take z (drop (512 * i) xs)))) (machine_of c.loop-i.self)) k ∙ c.write_step.ensures.stepped) c.in_default.not-Done;
+      kept = kept_on c.args.self.now c.loop-i.self c.write_step.new.self c.loop-i.invariant.1 c.write_step.ensures.kept;
     }
 
 pub returns : goal.returns

@@ -9,9 +9,9 @@ use Rattle.caching.proofs.caching_disk.CachingDisk.switch.Goals as goal
 pub returns : goal.returns
 returns c =
     let d = c.args.self.now in
-    let e = c.cache-step.new.self in
-    let k = c.cache-step.ensures.kept in
+    let e = c.cache_step.new.self in
+    let k = c.cache_step.ensures.kept in
     λ b l.
-    ap (λ (x : Answer). gives x (state_of e) (room l)) c.answer-for.ensures
-    ∙ ran_one d e c.count-order.new.self (cache_step c.args.on) c.cache-step.result (room l)
-    (record { counted = c.count-order.ensures; blocks = k.blocks; through = k.through; orders = k.orders }) c.cache-step.ensures.stepped
+    ap (λ (x : Answer). gives x (state_of e) (room l)) c.answer_for.ensures
+    ∙ ran_one d e c.count_order.new.self (cache_step c.args.on) c.cache_step.result (room l)
+    (record { counted = c.count_order.ensures; blocks = k.blocks; through = k.through; orders = k.orders }) c.cache_step.ensures.stepped

@@ -22,22 +22,22 @@ returns-then-tick c =
       kept = record { blocks = refl; through = refl; orders = spent_orders d.power q c.tick.ensures.after };
     }
 
-pub invariant-of-self-2 : goal.invariant-of-self-2
-invariant-of-self-2 c =
+pub invariant_of-self-2 : goal.invariant_of-self-2
+invariant_of-self-2 c =
     let d = c.args.self.now in
     let n = d.blocks in
-    let new = c.copy-cells.new.image in
-    let slice = c.as-mut-slice.result.now in
+    let new = c.copy_cells.new.image in
+    let slice = c.as_mut_slice.result.now in
     let items = vec_items (with_items d.image new) in
     let is : items ≡ new = with_items_is d.image new (omega arith) in
-    let e = c.as-mut-slice.ensures.value in (
+    let e = c.as_mut_slice.ensures.value in (
       search rules,
       (
         search rules,
         (
           search rules,
           (
-            λ h. ∣ side_is 0 n items new slice (image_of d) 0 is e c.copy-cells.ensures.kept ∙ sym (side_is 513 n items new slice (image_of d) 0 is e c.copy-cells.ensures.copied) ∣₁,
+            λ h. ∣ side_is 0 n items new slice (image_of d) 0 is e c.copy_cells.ensures.kept ∙ sym (side_is 513 n items new slice (image_of d) 0 is e c.copy_cells.ensures.copied) ∣₁,
             tt,
           ),
         ),
@@ -49,13 +49,13 @@ returns c =
     let d = c.args.self.now in
     let q = c.tick.new.self in
     let n = d.blocks in
-    let new = c.copy-cells.new.image in
-    let slice = c.as-mut-slice.result.now in
+    let new = c.copy_cells.new.image in
+    let slice = c.as_mut_slice.result.now in
     let items = vec_items (with_items d.image new) in
     let is : items ≡ new = with_items_is d.image new (omega arith) in
-    let e = c.as-mut-slice.ensures.value in
-    let face = side_is 513 n items new slice (image_of d) 0 is e c.copy-cells.ensures.copied in
-    let medium = side_is 0 n items new slice (image_of d) 0 is e c.copy-cells.ensures.kept in
+    let e = c.as_mut_slice.ensures.value in
+    let face = side_is 513 n items new slice (image_of d) 0 is e c.copy_cells.ensures.copied in
+    let medium = side_is 0 n items new slice (image_of d) 0 is e c.copy_cells.ensures.kept in
     record {
       stepped = λ x.
           step_fails (store_in d) d.power q x (sym c.tick.ensures.had ∙ c.if-tick.false) c.tick.ensures.after

@@ -21,13 +21,13 @@ returns-in-Some c =
 pub returns : goal.returns
 returns c =
     let d = c.args.self.now in
-    let e = c.run-verifies.new.self in
+    let e = c.run_verifies.new.self in
     let xs = verifies c.args.block c.args.count in
-    let a = c.in-default.ensures.answer in
-    let k = c.run-verifies.ensures.kept in
+    let a = c.in_default.ensures.answer in
+    let k = c.run_verifies.ensures.kept in
     λ l.
-    ap (λ (x : Answer). gives x (state_of e) (room l)) c.answer-for.ensures
-    ∙ ran_bare d e c.admit.new.self xs c.run-verifies.result (room l)
-    (record { counted = a.counted; blocks = k.blocks; through = k.through; orders = k.orders }) c.run-verifies.ensures.ran
+    ap (λ (x : Answer). gives x (state_of e) (room l)) c.answer_for.ensures
+    ∙ ran_bare d e c.admit.new.self xs c.run_verifies.result (room l)
+    (record { counted = a.counted; blocks = k.blocks; through = k.through; orders = k.orders }) c.run_verifies.ensures.ran
     ∙ sym (moves_run (state_of d) c.args.block c.args.count false (room l) (ran (state_of d) (room l) (steps quiet xs (machine_of d))) a.few refl
     (omega (arith, a.within, length_contents 1026 513 d.blocks (image_of d))))

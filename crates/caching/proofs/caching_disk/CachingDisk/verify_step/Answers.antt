@@ -7,27 +7,27 @@ use Rattle.caching.proofs.Blocks.{face_at}
 use Rattle.caching.proofs.Keeps.{goes_on, kept_on}
 use Rattle.caching.proofs.caching_disk.CachingDisk.verify_step.Goals as goal
 
-pub returns-then-cell-readable : goal.returns-then-cell-readable
-returns-then-cell-readable c =
-    let d = c.take-power.new.self in
+pub returns-then-cell_readable : goal.returns-then-cell_readable
+returns-then-cell_readable c =
+    let d = c.take_power.new.self in
     let b = c.args.block in
-    let slice = c.as-slice.result.now in
+    let slice = c.as_slice.result.now in
     record {
       stepped =
-          goes_on c.args.self.now d c.take-power.result (verify_step b) (c.take-power.ensures.stepped (verify_step b)) c.if-not-take-power.false
-          ∙ verify_done (machine_of d) b (cell_at slice (1026 * b + 513)) (face_at d.blocks (image_of d) slice b c.as-slice.ensures.value (omega (arith, c.take-power.ensures.kept.blocks))) (sym c.cell-readable.ensures ∙ c.if-cell-readable.true);
-      kept = c.take-power.ensures.kept;
+          goes_on c.args.self.now d c.take_power.result (verify_step b) (c.take_power.ensures.stepped (verify_step b)) c.if-not-take_power.false
+          ∙ verify_done (machine_of d) b (cell_at slice (1026 * b + 513)) (face_at d.blocks (image_of d) slice b c.as_slice.ensures.value (omega (arith, c.take_power.ensures.kept.blocks))) (sym c.cell_readable.ensures ∙ c.if-cell_readable.true);
+      kept = c.take_power.ensures.kept;
     }
 
-pub returns-else-cell-readable : goal.returns-else-cell-readable
-returns-else-cell-readable c =
-    let d = c.take-power.new.self in
+pub returns-else-cell_readable : goal.returns-else-cell_readable
+returns-else-cell_readable c =
+    let d = c.take_power.new.self in
     let b = c.args.block in
-    let slice = c.as-slice.result.now in
+    let slice = c.as_slice.result.now in
     record {
       stepped =
-          goes_on c.args.self.now d c.take-power.result (verify_step b) (c.take-power.ensures.stepped (verify_step b)) c.if-not-take-power.false
-          ∙ verify_stopped (machine_of d) b (cell_at slice (1026 * b + 513)) (face_at d.blocks (image_of d) slice b c.as-slice.ensures.value (omega (arith, c.take-power.ensures.kept.blocks))) (sym c.cell-readable.ensures ∙ c.if-cell-readable.false)
-          ∙ (λ i. ends (sym c.met-unreadable.ensures.stops i) [] (sym c.met-unreadable.ensures.counted i));
-      kept = kept_on c.args.self.now d c.met-unreadable.new.self c.take-power.ensures.kept c.met-unreadable.ensures.kept;
+          goes_on c.args.self.now d c.take_power.result (verify_step b) (c.take_power.ensures.stepped (verify_step b)) c.if-not-take_power.false
+          ∙ verify_stopped (machine_of d) b (cell_at slice (1026 * b + 513)) (face_at d.blocks (image_of d) slice b c.as_slice.ensures.value (omega (arith, c.take_power.ensures.kept.blocks))) (sym c.cell_readable.ensures ∙ c.if-cell_readable.false)
+          ∙ (λ i. ends (sym c.met_unreadable.ensures.stops i) [] (sym c.met_unreadable.ensures.counted i));
+      kept = kept_on c.args.self.now d c.met_unreadable.new.self c.take_power.ensures.kept c.met_unreadable.ensures.kept;
     }

@@ -20,12 +20,12 @@ returns-in-Some c =
 pub returns : goal.returns
 returns c =
     let d = c.args.self.now in
-    let e = c.run-writes.new.self in
-    let a = c.in-default.ensures.answer in
-    let k = c.run-writes.ensures.kept in
+    let e = c.run_writes.new.self in
+    let a = c.in_default.ensures.answer in
+    let k = c.run_writes.ensures.kept in
     let xs = writes c.args.through c.args.block (blocks c.args.count c.args.from.now) in
-    ap (λ (x : Answer). gives x (state_of e) []) c.answer-for.ensures
-    ∙ ran_bare d e c.admit.new.self xs c.run-writes.result []
-    (record { counted = a.counted; blocks = k.blocks; through = k.through; orders = k.orders }) c.run-writes.ensures.ran
+    ap (λ (x : Answer). gives x (state_of e) []) c.answer_for.ensures
+    ∙ ran_bare d e c.admit.new.self xs c.run_writes.result []
+    (record { counted = a.counted; blocks = k.blocks; through = k.through; orders = k.orders }) c.run_writes.ensures.ran
     ∙ sym (moves_run (state_of d) c.args.block c.args.count (ltb (length c.args.from.now) (512 * c.args.count)) [] (ran (state_of d) [] (steps quiet xs (machine_of d))) a.few a.long
     (omega (arith, a.within, length_contents 1026 513 d.blocks (image_of d))))

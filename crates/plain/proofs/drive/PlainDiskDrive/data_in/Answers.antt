@@ -7,21 +7,21 @@ use Rattle.disk.proofs.Performs.{perform_dark, perform_lit}
 use Rattle.plain.specs.Meaning.{state_of}
 use Rattle.plain.proofs.drive.PlainDiskDrive.data_in.Goals as goal
 
-pub returns-then-not-is-lit : goal.returns-then-not-is-lit
-returns-then-not-is-lit c =
-    (quiet, c.ignore.ensures c.args.into.now ∙ perform_dark quiet (state_of c.args.self.now) c.args.task (fetches c.args.into.now) (sym c.is-lit.ensures ∙ c.if-not-is-lit.true))
+pub returns-then-not-is_lit : goal.returns-then-not-is_lit
+returns-then-not-is_lit c =
+    (quiet, c.ignore.ensures c.args.into.now ∙ perform_dark quiet (state_of c.args.self.now) c.args.task (fetches c.args.into.now) (sym c.is_lit.ensures ∙ c.if-not-is_lit.true))
 
 pub returns-in-Read : goal.returns-in-Read
 returns-in-Read c = (
   quiet,
   perform_lit quiet (state_of c.args.self.now) c.args.task (fetches c.args.into.now) (read c.in-Read.count)
-      (gives c.read.result (state_of c.read.new.self) c.read.new.into) (sym c.is-lit.ensures ∙ c.if-not-is-lit.false) c.in-Read.ensures.is c.read.ensures,
+      (gives c.read.result (state_of c.read.new.self) c.read.new.into) (sym c.is_lit.ensures ∙ c.if-not-is_lit.false) c.in-Read.ensures.is c.read.ensures,
 )
 
-pub returns-in-default : goal.returns-in-default
-returns-in-default c = (
+pub returns-in_default : goal.returns-in_default
+returns-in_default c = (
   quiet,
   perform_lit quiet (state_of c.args.self.now) c.args.task (fetches c.args.into.now) (meant c.order.result)
-      (gives c.without-data.result (state_of c.without-data.new.self) c.args.into.now) (sym c.is-lit.ensures ∙ c.if-not-is-lit.false) c.order.ensures.is
-      (c.without-data.ensures (fetches c.args.into.now) (bare_fetches c.args.into.now c.order.result c.order.ensures.some c.in-default.not-Read)),
+      (gives c.without_data.result (state_of c.without_data.new.self) c.args.into.now) (sym c.is_lit.ensures ∙ c.if-not-is_lit.false) c.order.ensures.is
+      (c.without_data.ensures (fetches c.args.into.now) (bare_fetches c.args.into.now c.order.result c.order.ensures.some c.in_default.not-Read)),
 )

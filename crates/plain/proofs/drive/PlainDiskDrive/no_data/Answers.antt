@@ -7,14 +7,14 @@ use Rattle.disk.proofs.Performs.{perform_dark, perform_lit}
 use Rattle.plain.specs.Meaning.{state_of}
 use Rattle.plain.proofs.drive.PlainDiskDrive.no_data.Goals as goal
 
-pub returns-then-not-is-lit : goal.returns-then-not-is-lit
-returns-then-not-is-lit c =
-    (quiet, c.ignore.ensures [] ∙ perform_dark quiet (state_of c.args.self.now) c.args.task nothing (sym c.is-lit.ensures ∙ c.if-not-is-lit.true))
+pub returns-then-not-is_lit : goal.returns-then-not-is_lit
+returns-then-not-is_lit c =
+    (quiet, c.ignore.ensures [] ∙ perform_dark quiet (state_of c.args.self.now) c.args.task nothing (sym c.is_lit.ensures ∙ c.if-not-is_lit.true))
 
 pub returns : goal.returns
 returns c = (
   quiet,
   perform_lit quiet (state_of c.args.self.now) c.args.task nothing (meant c.order-order.result)
-      (gives c.without-data.result (state_of c.without-data.new.self) []) (sym c.is-lit.ensures ∙ c.if-not-is-lit.false) c.order-order.ensures.is
-      (c.without-data.ensures nothing (bare_nothing c.order-order.result c.order-order.ensures.some)),
+      (gives c.without_data.result (state_of c.without_data.new.self) []) (sym c.is_lit.ensures ∙ c.if-not-is_lit.false) c.order-order.ensures.is
+      (c.without_data.ensures nothing (bare_nothing c.order-order.result c.order-order.ensures.some)),
 )

@@ -11,10 +11,10 @@ pub returns : goal.returns
 returns c =
     let k = claims_of c.args.self.now.blocks in
     let t = c.args.task in
-    let e : meant c.order-of.result ≡ taken (words_for k) t.command t.feature t.count =
-    c.order-of.ensures.is ∙ ap (λ (x : Claims). taken (words_for x) t.command t.feature t.count) c.claims.ensures in
+    let e : meant c.order_of.result ≡ taken (words_for k) t.command t.feature t.count =
+    c.order_of.ensures.is ∙ ap (λ (x : Claims). taken (words_for x) t.command t.feature t.count) c.claims.ensures in
     record {
       is = e;
-      some = c.order-of.ensures.some;
+      some = c.order_of.ensures.some;
       uncached = ap switches e ∙ never_switches (words_for k) (cached_for k) t.command t.feature t.count;
     }

@@ -20,11 +20,11 @@ returns-in-Some c =
 pub returns : goal.returns
 returns c =
     let d = c.args.self.now in
-    let e = c.run-reads.new.self in
+    let e = c.run_reads.new.self in
     let was = c.args.into.now in
     let xs = reads c.args.block c.args.count in
-    let a = c.in-default.ensures.answer in
-    ap (λ (x : Answer). gives x (state_of e) c.run-reads.new.into) c.answer-for.ensures
-    ∙ ran_filled d e c.admit.new.self xs c.run-reads.result was c.run-reads.new.into a.counted c.run-reads.ensures.ran c.run-reads.ensures.kept.blocks c.run-reads.ensures.kept.orders
+    let a = c.in_default.ensures.answer in
+    ap (λ (x : Answer). gives x (state_of e) c.run_reads.new.into) c.answer_for.ensures
+    ∙ ran_filled d e c.admit.new.self xs c.run_reads.result was c.run_reads.new.into a.counted c.run_reads.ensures.ran c.run_reads.ensures.kept.blocks c.run_reads.ensures.kept.orders
     ∙ sym (moves_run (state_of d) c.args.block c.args.count (ltb (length was) (512 * c.args.count)) was (ran (state_of d) was (steps quiet xs (machine_of d))) a.few a.long
     (omega (arith, a.within, length_contents 513 0 d.blocks (image_of d))))

@@ -20,39 +20,39 @@ returns-then-not-tick c =
       kept = record { blocks = refl; orders = spent_orders d.power c.tick.new.self c.tick.ensures.after };
     }
 
-pub returns-then-read-cell : goal.returns-then-read-cell
-returns-then-read-cell c =
+pub returns-then-read_cell : goal.returns-then-read_cell
+returns-then-read_cell c =
     let d = c.args.self.now in
     let b = c.args.block in
     let s = store_of d.blocks (image_of d) in
     let q = c.tick.new.self in
-    let slice = c.as-slice.result.now in
+    let slice = c.as_slice.result.now in
     let k = cell_at slice (513 * b) in
-    let can = first_true (readable k) (eqb (length c.args.into.now) 512) c.read-cell.result c.read-cell.ensures.was c.if-read-cell.true in
+    let can = first_true (readable k) (eqb (length c.args.into.now) 512) c.read_cell.result c.read_cell.ensures.was c.if-read_cell.true in
     record {
       stepped =
           step_lasts s d.power q (read_step b) (sym c.tick.ensures.had ∙ c.if-not-tick.false) c.tick.ensures.after
-          ∙ read_done (machine_with s q) b k (face_at d.blocks (image_of d) slice b c.as-slice.ensures.value (omega arith)) can
-          ∙ ap (λ (z : List ℕ). ends Done z (machine_with s q)) (sym (c.read-cell.ensures.content ∙ ap (λ (v : Bool). cond v (bytes_of_read k) c.args.into.now) c.if-read-cell.true));
+          ∙ read_done (machine_with s q) b k (face_at d.blocks (image_of d) slice b c.as_slice.ensures.value (omega arith)) can
+          ∙ ap (λ (z : List ℕ). ends Done z (machine_with s q)) (sym (c.read_cell.ensures.content ∙ ap (λ (v : Bool). cond v (bytes_of_read k) c.args.into.now) c.if-read_cell.true));
       untouched = tt;
       kept = record { blocks = refl; orders = spent_orders d.power q c.tick.ensures.after };
     }
 
-pub returns-else-read-cell : goal.returns-else-read-cell
-returns-else-read-cell c =
+pub returns-else-read_cell : goal.returns-else-read_cell
+returns-else-read_cell c =
     let d = c.args.self.now in
     let b = c.args.block in
     let s = store_of d.blocks (image_of d) in
     let q = c.tick.new.self in
-    let slice = c.as-slice.result.now in
+    let slice = c.as_slice.result.now in
     let k = cell_at slice (513 * b) in
     let long : eqb (length c.args.into.now) 512 ≡ true = grind (arith, nat_tests) in
-    let cannot = first_false (readable k) (eqb (length c.args.into.now) 512) c.read-cell.result c.read-cell.ensures.was long c.if-read-cell.false in
+    let cannot = first_false (readable k) (eqb (length c.args.into.now) 512) c.read_cell.result c.read_cell.ensures.was long c.if-read_cell.false in
     record {
       stepped =
           step_lasts s d.power q (read_step b) (sym c.tick.ensures.had ∙ c.if-not-tick.false) c.tick.ensures.after
-          ∙ read_stopped (machine_with s q) b k (face_at d.blocks (image_of d) slice b c.as-slice.ensures.value (omega arith)) cannot
-          ∙ (λ i. ends (sym c.met-unreadable.ensures.stops i) (put (sym c.met-unreadable.ensures.stops i) c.read-cell.new.out) (sym c.met-unreadable.ensures.counted i));
-      untouched = subst (λ (z : End). Untouched z c.args.into.now c.read-cell.new.out) (sym c.met-unreadable.ensures.stops) (c.read-cell.ensures.content ∙ ap (λ (v : Bool). cond v (bytes_of_read k) c.args.into.now) c.if-read-cell.false);
-      kept = record { blocks = c.met-unreadable.ensures.kept.blocks; orders = c.met-unreadable.ensures.kept.orders ∙ spent_orders d.power q c.tick.ensures.after };
+          ∙ read_stopped (machine_with s q) b k (face_at d.blocks (image_of d) slice b c.as_slice.ensures.value (omega arith)) cannot
+          ∙ (λ i. ends (sym c.met_unreadable.ensures.stops i) (put (sym c.met_unreadable.ensures.stops i) c.read_cell.new.out) (sym c.met_unreadable.ensures.counted i));
+      untouched = subst (λ (z : End). Untouched z c.args.into.now c.read_cell.new.out) (sym c.met_unreadable.ensures.stops) (c.read_cell.ensures.content ∙ ap (λ (v : Bool). cond v (bytes_of_read k) c.args.into.now) c.if-read_cell.false);
+      kept = record { blocks = c.met_unreadable.ensures.kept.blocks; orders = c.met_unreadable.ensures.kept.orders ∙ spent_orders d.power q c.tick.ensures.after };
     }

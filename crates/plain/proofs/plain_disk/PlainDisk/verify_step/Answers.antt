@@ -16,31 +16,31 @@ returns-then-not-tick c =
       kept = record { blocks = refl; orders = spent_orders d.power c.tick.new.self c.tick.ensures.after };
     }
 
-pub returns-then-cell-readable : goal.returns-then-cell-readable
-returns-then-cell-readable c =
+pub returns-then-cell_readable : goal.returns-then-cell_readable
+returns-then-cell_readable c =
     let d = c.args.self.now in
     let b = c.args.block in
     let s = store_of d.blocks (image_of d) in
     let q = c.tick.new.self in
-    let slice = c.as-slice.result.now in
+    let slice = c.as_slice.result.now in
     record {
       stepped =
           step_lasts s d.power q (verify_step b) (sym c.tick.ensures.had ∙ c.if-not-tick.false) c.tick.ensures.after
-          ∙ verify_done (machine_with s q) b (cell_at slice (513 * b)) (face_at d.blocks (image_of d) slice b c.as-slice.ensures.value (omega arith)) (sym c.cell-readable.ensures ∙ c.if-cell-readable.true);
+          ∙ verify_done (machine_with s q) b (cell_at slice (513 * b)) (face_at d.blocks (image_of d) slice b c.as_slice.ensures.value (omega arith)) (sym c.cell_readable.ensures ∙ c.if-cell_readable.true);
       kept = record { blocks = refl; orders = spent_orders d.power q c.tick.ensures.after };
     }
 
-pub returns-else-cell-readable : goal.returns-else-cell-readable
-returns-else-cell-readable c =
+pub returns-else-cell_readable : goal.returns-else-cell_readable
+returns-else-cell_readable c =
     let d = c.args.self.now in
     let b = c.args.block in
     let s = store_of d.blocks (image_of d) in
     let q = c.tick.new.self in
-    let slice = c.as-slice.result.now in
+    let slice = c.as_slice.result.now in
     record {
       stepped =
           step_lasts s d.power q (verify_step b) (sym c.tick.ensures.had ∙ c.if-not-tick.false) c.tick.ensures.after
-          ∙ verify_stopped (machine_with s q) b (cell_at slice (513 * b)) (face_at d.blocks (image_of d) slice b c.as-slice.ensures.value (omega arith)) (sym c.cell-readable.ensures ∙ c.if-cell-readable.false)
-          ∙ (λ i. ends (sym c.met-unreadable.ensures.stops i) [] (sym c.met-unreadable.ensures.counted i));
-      kept = record { blocks = c.met-unreadable.ensures.kept.blocks; orders = c.met-unreadable.ensures.kept.orders ∙ spent_orders d.power q c.tick.ensures.after };
+          ∙ verify_stopped (machine_with s q) b (cell_at slice (513 * b)) (face_at d.blocks (image_of d) slice b c.as_slice.ensures.value (omega arith)) (sym c.cell_readable.ensures ∙ c.if-cell_readable.false)
+          ∙ (λ i. ends (sym c.met_unreadable.ensures.stops i) [] (sym c.met_unreadable.ensures.counted i));
+      kept = record { blocks = c.met_unreadable.ensures.kept.blocks; orders = c.met_unreadable.ensures.kept.orders ∙ spent_orders d.power q c.tick.ensures.after };
     }

@@ -21,11 +21,11 @@ returns-in-Some c =
 pub returns : goal.returns
 returns c =
     let d = c.args.self.now in
-    let e = c.run-writes.new.self in
-    let a = c.in-default.ensures.answer in
+    let e = c.run_writes.new.self in
+    let a = c.in_default.ensures.answer in
     λ t.
     let xs = writes t c.args.block (blocks c.args.count c.args.from.now) in
-    ap (λ (x : Answer). gives x (state_of e) []) c.answer-for.ensures
-    ∙ ran_bare d e c.admit.new.self xs c.run-writes.result [] a.counted (c.run-writes.ensures.ran t) c.run-writes.ensures.kept.blocks c.run-writes.ensures.kept.orders
+    ap (λ (x : Answer). gives x (state_of e) []) c.answer_for.ensures
+    ∙ ran_bare d e c.admit.new.self xs c.run_writes.result [] a.counted (c.run_writes.ensures.ran t) c.run_writes.ensures.kept.blocks c.run_writes.ensures.kept.orders
     ∙ sym (moves_run (state_of d) c.args.block c.args.count (ltb (length c.args.from.now) (512 * c.args.count)) [] (ran (state_of d) [] (steps quiet xs (machine_of d))) a.few a.long
     (omega (arith, a.within, length_contents 513 0 d.blocks (image_of d))))

@@ -23,13 +23,13 @@ returns c =
     let xs = c.args.data.now in
     let s = store_of d.blocks (image_of d) in
     let q = c.tick.new.self in
-    let slice = c.as-mut-slice.result.now in
-    let new = c.write-cell.new.image in
+    let slice = c.as_mut_slice.result.now in
+    let new = c.write_cell.new.image in
     let is : vec_items (with_items d.image new) ≡ new = with_items_is d.image new (omega arith) in
     let fits : 513 * d.blocks ≤ length (image_of d) = omega arith in
     let e : contents 513 0 d.blocks (vec_items (with_items d.image new)) ≡ set (contents 513 0 d.blocks (image_of d)) b (bytes xs) =
     ap (λ (z : List ℕ). contents 513 0 d.blocks z) is
-    ∙ block_written d.blocks (image_of d) slice new b xs c.write-cell.result c.as-mut-slice.ensures.value (omega arith) fits (omega arith) c.write-cell.ensures.was c.write-cell.ensures.content in
+    ∙ block_written d.blocks (image_of d) slice new b xs c.write_cell.result c.as_mut_slice.ensures.value (omega arith) fits (omega arith) c.write_cell.ensures.was c.write_cell.ensures.content in
     record {
       stepped = λ t.
           step_lasts s d.power q (write_step t b (bytes xs)) (sym c.tick.ensures.had ∙ c.if-not-tick.false) c.tick.ensures.after

@@ -9,6 +9,6 @@ returns-then-stops g c =
 
 pub returns : goal.returns
 returns g c =
-    agrees_behind c.args.self.now.limit _ (g.D.Drive.meaning c.args.self.now.inner) (g.D.Drive.meaning c.data-out.new.self) c.args.task (sends c.args.from.now) [] c.data-out.result refl
+    agrees_behind c.args.self.now.limit _ (g.D.Drive.meaning c.args.self.now.inner) (g.D.Drive.meaning c.data_out.new.self) c.args.task (sends c.args.from.now) [] c.data_out.result refl
     (sym c.stops.ensures ∙ c.if-stops.false)
-    (g.met.D.Drive.agrees c.args.self.now.inner _ c.data-out.new.self c.data-out.ensures)
+    (g.met.D.Drive.agrees c.args.self.now.inner _ c.data_out.new.self c.data_out.ensures)

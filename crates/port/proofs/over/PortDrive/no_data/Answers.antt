@@ -9,6 +9,6 @@ returns-then-stops g c =
 
 pub returns : goal.returns
 returns g c =
-    agrees_behind c.args.self.now.limit _ (g.D.Drive.meaning c.args.self.now.inner) (g.D.Drive.meaning c.no-data.new.self) c.args.task nothing [] c.no-data.result refl
+    agrees_behind c.args.self.now.limit _ (g.D.Drive.meaning c.args.self.now.inner) (g.D.Drive.meaning c.no_data.new.self) c.args.task nothing [] c.no_data.result refl
     (sym c.stops.ensures ∙ c.if-stops.false)
-    (g.met.D.Drive.agrees c.args.self.now.inner _ c.no-data.new.self c.no-data.ensures)
+    (g.met.D.Drive.agrees c.args.self.now.inner _ c.no_data.new.self c.no_data.ensures)

@@ -9,6 +9,6 @@ returns-then-stops g c =
 
 pub returns : goal.returns
 returns g c =
-    agrees_behind c.args.self.now.limit _ (g.D.Drive.meaning c.args.self.now.inner) (g.D.Drive.meaning c.words-in.new.self) c.args.task (fetches_words c.args.into.now) c.words-in.new.into c.words-in.result refl
+    agrees_behind c.args.self.now.limit _ (g.D.Drive.meaning c.args.self.now.inner) (g.D.Drive.meaning c.words_in.new.self) c.args.task (fetches_words c.args.into.now) c.words_in.new.into c.words_in.result refl
     (sym c.stops.ensures ∙ c.if-stops.false)
-    (g.met.D.Drive.agrees c.args.self.now.inner _ c.words-in.new.self c.words-in.ensures)
+    (g.met.D.Drive.agrees c.args.self.now.inner _ c.words_in.new.self c.words_in.ensures)

@@ -28,8 +28,8 @@ returns-in-Some g c =
     let reached = ap (λ (k : ℕ). back ++ drop k before) none in
     record {
       came = λ out.
-          subst (λ (v : Bool). Comes g.D.Drive.does (cond v (stopped Cdb PastEnd) (asks (512 * n) (ks x.block n) (read_work (g.D.Drive.meaning d).most c.args.fua x.block n))) d before e (back ++ drop (512 * n - 0) before) (Ok c.from-drive.result)) (sym (not_past f x c.in-Some.start.value within))
-          (back, c.read-verdict.result.0, c.read-verdict.result.1, said, reached, ap Ok c.from-drive.ensures);
+          subst (λ (v : Bool). Comes g.D.Drive.does (cond v (stopped Cdb PastEnd) (asks (512 * n) (ks x.block n) (read_work (g.D.Drive.meaning d).most c.args.fua x.block n))) d before e (back ++ drop (512 * n - 0) before) (Ok c.from_drive.result)) (sym (not_past f x c.in-Some.start.value within))
+          (back, c.read-verdict.result.0, c.read-verdict.result.1, said, reached, ap Ok c.from_drive.ensures);
       phase = refl;
       facts = refl;
     }

@@ -28,8 +28,8 @@ returns-in-Some g c =
     (subst (λ (k : ℕ). Held g.D.Drive.does (ks c.force-how.result c.in-Some.start.value (take k before)) d [] none_yet e [] c.write-verdict.result.0 c.write-verdict.result.1) none (c.write-verdict.ensures []))) in
     record {
       came = λ b.
-          subst (λ (v : Bool). Comes g.D.Drive.does (cond v (stopped Cdb PastEnd) (asks 0 (ks (force_by c.args.fua f.through) x.block (take (512 * n) before)) (write_work (g.D.Drive.meaning d).most (force_by c.args.fua f.through) x.block (blocks n (take (512 * n) before))))) d b e b (Ok c.from-drive.result)) (sym (not_past f x c.in-Some.start.value within))
-          ([], c.write-verdict.result.0, c.write-verdict.result.1, said, refl, ap Ok c.from-drive.ensures);
+          subst (λ (v : Bool). Comes g.D.Drive.does (cond v (stopped Cdb PastEnd) (asks 0 (ks (force_by c.args.fua f.through) x.block (take (512 * n) before)) (write_work (g.D.Drive.meaning d).most (force_by c.args.fua f.through) x.block (blocks n (take (512 * n) before))))) d b e b (Ok c.from_drive.result)) (sym (not_past f x c.in-Some.start.value within))
+          ([], c.write-verdict.result.0, c.write-verdict.result.1, said, refl, ap Ok c.from_drive.ensures);
       phase = refl;
       facts = refl;
     }
