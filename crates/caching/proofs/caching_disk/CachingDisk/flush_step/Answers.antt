@@ -17,19 +17,7 @@ invariant_of-self c =
     let slice = c.as_mut_slice.result.now in
     let items = vec_items (with_items d.image new) in
     let is : items ≡ new = with_items_is d.image new (omega arith) in
-    let e = c.as_mut_slice.ensures.value in (
-      search rules,
-      (
-        search rules,
-        (
-          search rules,
-          (
-            λ h. ∣ side_is 0 n items new slice (image_of d) 513 is e c.copy_cells.ensures.copied ∙ sym (side_is 513 n items new slice (image_of d) 513 is e c.copy_cells.ensures.kept) ∣₁,
-            tt,
-          ),
-        ),
-      ),
-    )
+    let e = c.as_mut_slice.ensures.value in record { whole = search rules; errors_fit = search rules; orders_fit = search rules; level = λ h. ∣ side_is 0 n items new slice (image_of d) 513 is e c.copy_cells.ensures.copied ∙ sym (side_is 513 n items new slice (image_of d) 513 is e c.copy_cells.ensures.kept) ∣₁ }
 
 pub returns : goal.returns
 returns c =

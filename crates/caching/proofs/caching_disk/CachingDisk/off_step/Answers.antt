@@ -5,7 +5,7 @@ use Rattle.caching.proofs.Switches.{then_off, off_flushes, off_not_done}
 use Rattle.caching.proofs.caching_disk.CachingDisk.off_step.Goals as goal
 
 pub invariant_of-self : goal.invariant_of-self
-invariant_of-self c = (search rules, (search rules, (search rules, (λ h. ∣ c.in-Done.ensures.settled refl ∣₁, tt))))
+invariant_of-self c = record { whole = search rules; errors_fit = search rules; orders_fit = search rules; level = λ h. ∣ c.in-Done.ensures.settled refl ∣₁ }
 
 pub returns-in-Done : goal.returns-in-Done
 returns-in-Done c =
