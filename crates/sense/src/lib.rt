@@ -13,5 +13,3 @@ pub use case::{Sense, SenseValues};
 pub use data::{SENSE_LENGTH, write_sense};
 pub use refusal::Refusal;
 pub use table::result;
-
-// The derived impls, for callers that compare or print.
