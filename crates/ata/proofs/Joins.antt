@@ -1,8 +1,8 @@
 -- Steps one after another: two lists of steps, each with its choices, are one list with the choices joined.
-use Rattle.std.proofs.Common.{◌≡◌, ℕ, zero, suc, ◌+◌, ◌<◌, ◌≤◌, List, [], ◌∷◌, ◌++◌, length, sym, refl, ap, ◌∙◌, append_assoc, add-zero, zero-add, arith}
+use Rattle.std.proofs.Common.{◌≡◌, ℕ, zero, suc, ◌+◌, ◌<◌, ◌≤◌, List, [], ◌∷◌, ◌++◌, length, sym, refl, ap, ◌∙◌, append_assoc, zero-add, arith}
 use Rattle.ata.specs.declared.answer.End.{End}
 use Rattle.ata.specs.declared.answer.End.TheVariants.{Done, Stopped, Cut}
-use Rattle.ata.specs.Machine.{Machine, Step, Choice, Outcome, Oracle, step, steps, ends, next, begun, begun_after}
+use Rattle.ata.specs.Machine.{Machine, Step, Outcome, Oracle, step, steps, ends, next, begun, begun_after}
 
 abbrev pub joined : ℕ → Oracle → Oracle → Oracle
 joined zero p q k = q k

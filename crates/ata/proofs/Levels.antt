@@ -1,9 +1,9 @@
 -- Where faces are on their medium: with the cache off, without power, after a flush, after a write through the cache.
-use Rattle.std.proofs.Common.{◌≡◌, ℕ, zero, suc, ◌+◌, ◌<◌, ◌≤◌, Bool, true, false, cond, ◌⊎◌, List, [], ◌∷◌, ◌++◌, length, get_or, set, Some, None, Option, sym, refl, ap, ◌∙◌, subst, inl, inr, arith, length-set, get_or-set_other, get_or-set_same}
+use Rattle.std.proofs.Common.{◌≡◌, ℕ, zero, suc, ◌+◌, ◌<◌, ◌≤◌, Bool, true, false, cond, ◌⊎◌, List, [], ◌∷◌, length, get_or, set, Some, None, Option, sym, refl, ap, ◌∙◌, inl, inr, arith, length-set, get_or-set_other, get_or-set_same}
 use Rattle.std.proofs.lemmas.Bool.Decides.{eqb_tells}
 use Rattle.ata.specs.declared.answer.End.{End}
 use Rattle.ata.specs.declared.answer.End.TheVariants.{Done, Stopped, Cut}
-use Rattle.ata.specs.Machine.{Content, unreadable, Machine, Store, Choice, Step, read_step, verify_step, write_step, flush_step, cache_step, idle_step, Oracle, Outcome, settle, settled, darkened, look, sinks, caches, act, powered, step, next, steps}
+use Rattle.ata.specs.Machine.{Content, unreadable, Machine, Choice, Step, read_step, verify_step, write_step, flush_step, cache_step, idle_step, Oracle, Outcome, settle, settled, look, sinks, caches, act, powered, step, next, steps}
 use Rattle.ata.specs.Commands.{writes}
 use Rattle.ata.specs.Laws.{Level, StaysLevel, FlushSettles, Settled, ThroughSettles}
 

@@ -1,5 +1,5 @@
 -- Steps that were done, or met an unreadable block, leave power as it was.
-use Rattle.std.proofs.Common.{◌≡◌, ℕ, ◌⊎◌, List, sym, refl, ◌∙◌, inl, inr, arith}
+use Rattle.std.proofs.Common.{◌≡◌, ℕ, List, sym, ◌∙◌, inl, inr, arith}
 use Rattle.ata.specs.declared.answer.End.TheVariants.{Done, Cut}
 use Rattle.ata.specs.Machine.{Machine, Step, Oracle, steps}
 use Rattle.ata.proofs.Power.{went}

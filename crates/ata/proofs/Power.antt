@@ -1,8 +1,8 @@
 -- Steps show what the faces alone decide, or lose their power; the drive's choices do not show.
-use Rattle.std.proofs.Common.{◌≡◌, ℕ, zero, suc, Bool, true, false, ◌⊎◌, List, [], ◌∷◌, ◌++◌, Some, None, Option, sym, refl, ap, ◌∙◌, subst, inl, inr, ⊎_elim, arith}
+use Rattle.std.proofs.Common.{◌≡◌, ℕ, zero, suc, false, ◌⊎◌, List, [], ◌∷◌, ◌++◌, Some, None, Option, refl, ap, ◌∙◌, subst, inl, inr, ⊎_elim, arith}
 use Rattle.ata.specs.declared.answer.End.{End}
 use Rattle.ata.specs.declared.answer.End.TheVariants.{Done, Stopped, Cut}
-use Rattle.ata.specs.Machine.{Content, Machine, Step, Choice, Oracle, Outcome, Look, look, scored, Store, settled, powered, step, next, steps, ends}
+use Rattle.ata.specs.Machine.{Machine, Step, Choice, Oracle, Outcome, Look, look, scored, settled, powered, step, next, steps, ends}
 use Rattle.ata.specs.Shows.{next_look, looks}
 
 apart : {A : Type 0} {x : A} (o : Option A) → o ≡ Some x → o ≡ None → ⊥

@@ -1,12 +1,10 @@
 -- Transfers of a range of blocks: cut in two, and what they give and show.
-use Rattle.std.proofs.Common.{◌≡◌, ℕ, zero, suc, ◌+◌, ◌-◌, ◌*◌, ◌<◌, ◌≤◌, min, Bool, true, false, cond, ltb, List, [], ◌∷◌, ◌++◌, length, get_or, take, drop, set, Some, None, Option, sym, refl, ap, ◌∙◌, subst, append_assoc, add-zero, zero-add, arith}
-use Rattle.std.proofs.lemmas.Bool.Decides.{nat_tests}
+use Rattle.std.proofs.Common.{◌≡◌, ℕ, zero, suc, ◌+◌, ◌-◌, ◌*◌, ◌<◌, ◌≤◌, Bool, List, [], ◌∷◌, ◌++◌, length, get_or, drop, Some, None, Option, sym, refl, ap, ◌∙◌, add-zero, zero-add, arith}
 use Rattle.std.proofs.lemmas.List.{length-append}
 use Rattle.ata.specs.declared.answer.End.{End}
 use Rattle.ata.specs.declared.answer.End.TheVariants.{Done, Stopped, Cut}
-use Rattle.ata.specs.Machine.{Content, unreadable, bytes, Machine, Step, read_step, write_step, Choice, Oracle, Outcome, Look, look, end_of_read, bytes_of_read, settled, powered, step, steps, next, ends, darkened}
+use Rattle.ata.specs.Machine.{Content, unreadable, bytes, Machine, Step, read_step, write_step, Choice, Oracle, look, end_of_read, bytes_of_read, settled, powered, step, steps, next}
 use Rattle.ata.specs.Commands.{reads, writes, blocks, Sector}
-use Rattle.ata.specs.Shows.{looks, next_look}
 
 pub reads_split : (b m n : ℕ) → reads b (m + n) ≡ reads b m ++ reads (b + m) n
 unfolding reads

@@ -1,5 +1,5 @@
 -- A drive's choices do not show while power lasts.
-use Rattle.std.proofs.Common.{◌≡◌, ◌⊎◌, List, None, sym, ◌∙◌, inl, inr}
+use Rattle.std.proofs.Common.{◌≡◌, List, None, sym, ◌∙◌, inl, inr}
 use Rattle.ata.specs.Machine.{Machine, Step, Oracle, steps}
 use Rattle.ata.specs.Shows.{looks}
 use Rattle.ata.specs.Laws.{seen, FreedomUnseen}

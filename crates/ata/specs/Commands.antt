@@ -1,5 +1,5 @@
 -- What a drive is to whoever commands it, and what each command does to it.
-use Rattle.std.specs.Prelude.{◌≡◌, ℕ, zero, suc, ◌+◌, ◌*◌, ◌^◌, ◌<◌, ◌≤◌, min, Bool, true, false, cond, ◌||◌, List, [], ◌∷◌, ◌++◌, length, take, drop, Some, None, Option, bit_and, nat_lt, slice_index_or}
+use Rattle.std.specs.Prelude.{◌≡◌, ℕ, zero, suc, ◌+◌, ◌*◌, ◌^◌, ◌<◌, ◌≤◌, min, Bool, true, false, cond, ◌||◌, List, [], ◌∷◌, ◌++◌, length, take, drop, Some, None, bit_and, nat_lt, slice_index_or}
 use Rattle.ata.specs.declared.answer.End.{End}
 use Rattle.ata.specs.declared.answer.End.TheVariants.{Done, Stopped, Cut}
 use Rattle.ata.specs.declared.answer.Answer.{Answer}
@@ -8,7 +8,7 @@ use Rattle.ata.specs.declared.task.AtaCommand.{AtaCommand}
 use Rattle.ata.specs.declared.task.AtaCommand.TheVariants.{IdentifyDevice, ReadDma, ReadDmaExt, WriteDma, WriteDmaExt, WriteDmaFuaExt, ReadVerify, ReadVerifyExt, FlushCache, FlushCacheExt, SetFeatures, StandbyImmediate, CheckPowerMode, Unlisted}
 use Rattle.ata.specs.declared.task.Feature.{Feature}
 use Rattle.ata.specs.declared.task.Feature.TheVariants.{Absent, EnableWriteCache, DisableWriteCache, Unlisted as OtherFeature}
-use Rattle.ata.specs.Machine.{Content, unreadable, bytes, Store, Machine, Step, read_step, verify_step, write_step, flush_step, cache_step, idle_step, Oracle, Outcome, steps}
+use Rattle.ata.specs.Machine.{Content, unreadable, bytes, Machine, Step, read_step, verify_step, write_step, flush_step, cache_step, idle_step, Oracle, Outcome, steps}
 use Rattle.ata.specs.Words.{word, wide, cached, through, blocks_of, count_limit, showing}
 
 -- The words as they are with the cache off, the most blocks one command may move, the commands taken so far, and the rest.

@@ -1,5 +1,5 @@
 -- What holds of every drive, whatever it does with its freedom.
-use Rattle.std.specs.Prelude.{◌≡◌, ℕ, ◌+◌, ◌<◌, ◌≤◌, Bool, true, false, List, [], ◌∷◌, ◌++◌, length, None, slice_index_or}
+use Rattle.std.specs.Prelude.{◌≡◌, ℕ, ◌+◌, ◌<◌, ◌≤◌, true, false, List, [], ◌∷◌, ◌++◌, length, None, slice_index_or}
 use Rattle.ata.specs.declared.answer.End.TheVariants.{Done}
 use Rattle.ata.specs.Machine.{Content, unreadable, Machine, Step, flush_step, cache_step, Oracle, Outcome, Look, steps, next}
 use Rattle.ata.specs.Commands.{writes}

@@ -1,5 +1,5 @@
 -- A drive as a machine of steps: what a step shows, what it leaves on the medium, and how power ends it.
-use Rattle.std.specs.Prelude.{ℕ, zero, suc, ◌+◌, min, Bool, true, false, cond, List, [], ◌∷◌, ◌++◌, length, Some, None, Option, slice_index_or, slice_set}
+use Rattle.std.specs.Prelude.{ℕ, zero, suc, ◌+◌, min, Bool, false, cond, List, [], ◌∷◌, ◌++◌, Some, None, Option, slice_index_or, slice_set}
 use Rattle.ata.specs.declared.answer.End.{End}
 use Rattle.ata.specs.declared.answer.End.TheVariants.{Done, Stopped, Cut}
 

@@ -1,5 +1,5 @@
 -- The 256 words that IDENTIFY DEVICE gives, and what they claim.
-use Rattle.std.specs.Prelude.{ℕ, ◌+◌, ◌*◌, ◌^◌, ◌<◌, ◌≤◌, Bool, true, false, cond, not, ◌&&◌, List, [], ◌∷◌, ◌==◌, bit_and, slice_index, slice_set}
+use Rattle.std.specs.Prelude.{ℕ, ◌+◌, ◌*◌, Bool, cond, not, List, ◌==◌, bit_and, slice_index, slice_set}
 
 abbrev pub word : List ℕ → ℕ → ℕ
 word ws i = slice_index ws i

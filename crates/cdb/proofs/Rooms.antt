@@ -1,5 +1,5 @@
 -- A request that was taken in has the room that its command needs.
-use Rattle.std.proofs.Common.{◌≡◌, ℕ, ◌≤◌, Bool, true, false, cond, List, [], ◌∷◌, length, Ok, Err, Result, sym, refl, subst, arith}
+use Rattle.std.proofs.Common.{◌≡◌, ℕ, ◌≤◌, Bool, true, false, cond, List, [], ◌∷◌, length, Ok, Err, Result, sym, subst, arith}
 use Rattle.sense.specs.declared.refusal.Refusal.{Refusal}
 use Rattle.sense.specs.declared.refusal.Refusal.TheVariants.{CdbLength}
 use Rattle.cdb.specs.declared.command.Command.{Command}

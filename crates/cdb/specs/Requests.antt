@@ -1,5 +1,5 @@
 -- What a CDB asks for: its length is judged first, then what it needs of the buffers, then its other fields.
-use Rattle.std.specs.Prelude.{ℕ, ◌+◌, ◌*◌, Bool, true, false, cond, not, ◌||◌, List, [], ◌∷◌, length, Ok, Err, Result, ◌==◌, nat_lt}
+use Rattle.std.specs.Prelude.{ℕ, ◌*◌, Bool, true, cond, not, ◌||◌, List, [], ◌∷◌, length, Ok, Err, Result, ◌==◌, nat_lt}
 use Rattle.sense.specs.declared.case.Sense.{Sense}
 use Rattle.sense.specs.declared.case.Sense.TheVariants.{UnknownCode, WrongField}
 use Rattle.sense.specs.declared.refusal.Refusal.{Refusal}

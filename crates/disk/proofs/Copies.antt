@@ -3,7 +3,7 @@ use Rattle.std.proofs.Common.{◌≡◌, ℕ, ◌+◌, ◌-◌, ◌*◌, ◌<◌
 use Rattle.std.proofs.lemmas.List.{length-take, length-take-le, length-drop, length-append, same_lists, get_or-take, get_or-drop, get_or_append_left, get_or-append_right, length-set, get_or-set_same, get_or-set_other}
 use Rattle.std.proofs.lemmas.Bool.Decides.{eqb_tells}
 use Rattle.ata.specs.Machine.{Content, unreadable, bytes}
-use Rattle.disk.specs.Cells.{inside, cell_at, contents}
+use Rattle.disk.specs.Cells.{cell_at, contents}
 use Rattle.disk.specs.Copied.{with_copy}
 use Rattle.disk.proofs.Cells.{cell_inside, inside_true}
 use Rattle.disk.proofs.Images.{length_contents, getD_contents, apart}

@@ -1,5 +1,5 @@
 -- Contents are plain data: two proofs that they are equal are one.
-use Rattle.std.proofs.Common.{◌≡◌, ℕ, List, refl, ap, subst, arith}
+use Rattle.std.proofs.Common.{◌≡◌, ℕ, List, refl, ap, arith}
 use mathlib.Core.List.{List-discrete, is_set}
 use mathlib.Core.HLevel.{hedberg}
 use mathlib.Core.Logic.{∥∥₁_elim}

@@ -1,5 +1,5 @@
 -- What a port makes of a command.
-use Rattle.std.proofs.Common.{◌≡◌, ℕ, zero, suc, ◌+◌, ◌*◌, ◌<◌, ◌≤◌, min, Bool, true, false, cond, ◌&&◌, ◌||◌, ltb, ◌⊎◌, List, [], ◌∷◌, length, sym, refl, ap, ◌∙◌, subst, inl, inr, arith}
+use Rattle.std.proofs.Common.{◌≡◌, ℕ, ◌+◌, ◌*◌, ◌<◌, ◌≤◌, min, Bool, true, false, cond, ◌&&◌, ◌||◌, ltb, ◌⊎◌, List, length, sym, refl, ap, ◌∙◌, inl, inr, arith}
 use Rattle.std.proofs.lemmas.Bool.Decides.{nat_tests}
 use Rattle.ata.specs.declared.answer.Answer.{Answer}
 use Rattle.ata.specs.declared.task.TaskFile.{TaskFile}
@@ -8,9 +8,9 @@ use Rattle.ata.specs.declared.task.AtaCommand.TheVariants.{IdentifyDevice, ReadD
 use Rattle.ata.specs.declared.task.Feature.{Feature}
 use Rattle.ata.specs.declared.task.Feature.TheVariants.{Absent, EnableWriteCache, DisableWriteCache, Unlisted as OtherFeature}
 use Rattle.ata.specs.Machine.{Oracle, steps}
-use Rattle.ata.specs.Words.{wide, cached, through, count_limit}
-use Rattle.ata.specs.Commands.{State, Formed, Gave, Load, gives, says, aborted, no_answer, ordered, room, incoming, outgoing, incoming_words, size, moves, reads, verifies, writes, blocks, ran, named, Order, identify, read, verify, write, flush, switch, idle, unknown, taken, switched_by, obeys, perform}
-use Rattle.ata.specs.Exchange.{Exchange, exchange, Agrees}
+use Rattle.ata.specs.Words.{wide, cached, through}
+use Rattle.ata.specs.Commands.{State, Gave, Load, gives, says, aborted, no_answer, ordered, room, incoming, outgoing, incoming_words, size, moves, reads, verifies, writes, blocks, ran, named, Order, identify, read, verify, write, flush, switch, idle, unknown, taken, switched_by, obeys, perform}
+use Rattle.ata.specs.Exchange.{exchange, Agrees}
 use Rattle.port.specs.Limits.{limited, names}
 
 -- a result with its drive behind the port

@@ -1,5 +1,5 @@
 -- A drive behind a port.
-use Rattle.std.specs.Prelude.{ℕ, min, max, Bool, true, false}
+use Rattle.std.specs.Prelude.{ℕ, min, max}
 use Rattle.ata.specs.declared.task.AtaCommand.{AtaCommand}
 use Rattle.ata.specs.declared.task.AtaCommand.TheVariants.{IdentifyDevice, ReadDma, ReadDmaExt, WriteDma, WriteDmaExt, WriteDmaFuaExt, ReadVerify, ReadVerifyExt, FlushCache, FlushCacheExt, SetFeatures, StandbyImmediate, CheckPowerMode, Unlisted}
 use Rattle.ata.specs.Commands.{State, named}

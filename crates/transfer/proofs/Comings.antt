@@ -1,19 +1,18 @@
 -- Each command that is asked comes to its steps.
-use Rattle.std.proofs.Common.{◌≡◌, ℕ, zero, suc, ◌+◌, ◌-◌, ◌*◌, ◌<◌, ◌≤◌, min, Bool, true, false, cond, List, [], ◌∷◌, ◌++◌, length, take, drop, Some, None, Ok, sym, refl, ap, ◌∙◌, subst, zero-mul, arith}
+use Rattle.std.proofs.Common.{◌≡◌, ℕ, zero, suc, ◌+◌, ◌-◌, ◌*◌, ◌<◌, ◌≤◌, Bool, true, false, List, [], ◌∷◌, length, take, drop, sym, refl, ap, ◌∙◌, zero-mul, arith}
 use Rattle.ata.specs.declared.task.TaskFile.{TaskFile}
 use Rattle.ata.specs.declared.task.AtaCommand.TheVariants.{CheckPowerMode}
-use Rattle.ata.specs.declared.answer.End.TheVariants.{Done, Stopped, Cut}
+use Rattle.ata.specs.declared.answer.End.TheVariants.{Done}
 use Rattle.ata.specs.Machine.{Content, bytes, look, Step, read_step, write_step, flush_step, idle_step, Oracle, steps}
 use Rattle.ata.specs.Words.{wide, through, blocks_of, count_limit}
 use Rattle.ata.specs.Commands.{State, nothing, size, reads, writes, blocks, ran, perform}
-use Rattle.ata.proofs.Ranges.{reads_read, length_reads, length_writes, length_blocks, silent_writes, silent_steps, Silent}
+use Rattle.ata.proofs.Ranges.{reads_read, length_reads, length_writes, length_blocks, silent_writes, silent_steps}
 use Rattle.transfer.specs.declared.tasks.Width.{Width}
 use Rattle.transfer.specs.Tasks.{width_of, limit, task, flush_task}
-use Rattle.transfer.specs.Talk.{Ask}
 use Rattle.transfer.specs.Asks.{plain_ask, read_ask, sent_ask}
 use Rattle.transfer.proofs.Groups.{group}
 use Rattle.transfer.proofs.Performs.{perform_read, perform_write, perform_flush, perform_idle}
-use Rattle.transfer.proofs.Plans.{Keep, Comes, run}
+use Rattle.transfer.proofs.Plans.{Keep, Comes}
 
 empty : (xs : List ℕ) → length xs ≡ 0 → xs ≡ []
 empty [] e = refl

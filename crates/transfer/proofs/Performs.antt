@@ -1,11 +1,11 @@
 -- The commands that a translator sends run as their steps, on a drive that admits them.
-use Rattle.std.proofs.Common.{◌≡◌, ℕ, zero, suc, ◌+◌, ◌-◌, ◌*◌, ◌%◌, ◌<◌, ◌≤◌, Bool, true, false, cond, ◌||◌, eqb, ltb, ◌⊎◌, List, [], ◌∷◌, length, sym, refl, ap, ◌∙◌, subst, inl, inr, mod-eq_of_lt, arith}
+use Rattle.std.proofs.Common.{◌≡◌, ℕ, zero, suc, ◌+◌, ◌*◌, ◌%◌, ◌<◌, ◌≤◌, Bool, true, false, cond, ◌||◌, ltb, ◌⊎◌, List, [], ◌∷◌, length, sym, refl, ap, ◌∙◌, inl, inr, mod-eq_of_lt, arith}
 use native.Mathlib.Nat.{mod_self}
 use Rattle.std.proofs.lemmas.Bool.Decides.{nat_tests}
 use Rattle.ata.specs.declared.task.TaskFile.{TaskFile}
 use Rattle.ata.specs.declared.task.AtaCommand.TheVariants.{CheckPowerMode}
 use Rattle.ata.specs.declared.task.Feature.TheVariants.{Absent}
-use Rattle.ata.specs.Machine.{Oracle, Step, flush_step, idle_step, steps}
+use Rattle.ata.specs.Machine.{Oracle, flush_step, idle_step, steps}
 use Rattle.ata.specs.Words.{wide, through}
 use Rattle.ata.specs.Commands.{State, Gave, Load, nothing, sends, fetches, room, size, reads, writes, blocks, ran, moves, named, Order, read, write, flush, idle, unknown, taken, obeys, perform, gives, no_answer, ordered}
 use Rattle.transfer.specs.declared.tasks.Width.{Width}

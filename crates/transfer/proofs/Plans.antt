@@ -1,13 +1,12 @@
 -- A conversation whose commands are steps is those steps, one after another.
-use Rattle.std.proofs.Common.{◌≡◌, ℕ, zero, suc, ◌+◌, ◌-◌, ◌*◌, ◌^◌, ◌<◌, ◌≤◌, min, Bool, true, false, List, [], ◌∷◌, ◌++◌, length, take, drop, Some, None, Ok, Err, sym, refl, ap, ◌∙◌, subst, arith}
+use Rattle.std.proofs.Common.{◌≡◌, ℕ, suc, ◌+◌, ◌<◌, ◌≤◌, min, true, false, List, [], ◌∷◌, ◌++◌, length, take, drop, Some, None, Ok, sym, refl, ap, ◌∙◌, subst, arith}
 use Rattle.std.proofs.lemmas.List.{length-append, length-take, length-drop}
-use Rattle.ata.specs.declared.answer.Answer.{Answer}
 use Rattle.ata.specs.declared.answer.End.{End}
 use Rattle.ata.specs.declared.answer.End.TheVariants.{Done, Stopped, Cut}
-use Rattle.ata.specs.Machine.{Machine, Step, Choice, Oracle, Outcome, steps, ends, next, begun}
-use Rattle.ata.specs.Commands.{State, Gave, Formed, with_machine, ordered, answered, over, ran, perform, gives}
+use Rattle.ata.specs.Machine.{Machine, Step, Oracle, Outcome, steps, ends, next, begun}
+use Rattle.ata.specs.Commands.{State, Gave, Formed, with_machine, ordered, answered, ran, perform, gives}
 use Rattle.ata.specs.Exchange.{Exchange, Agrees}
-use Rattle.ata.proofs.Joins.{joined, then, steps_join, begun_join, begun_then, begun_few, begun_all, begun_some}
+use Rattle.ata.proofs.Joins.{joined, steps_join, begun_join, begun_then, begun_few, begun_all, begun_some}
 use Rattle.ata.proofs.Lit.{lit_kept}
 use Rattle.sense.specs.declared.case.Sense.TheVariants.{NoAnswer, Unreadable}
 use Rattle.transfer.specs.declared.counts.Tally.{Tally}

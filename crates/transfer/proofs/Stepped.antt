@@ -1,12 +1,12 @@
 -- What a conversation is to the blocks: READ, WRITE and the commands without data by their steps alone.
-use Rattle.std.proofs.Common.{◌≡◌, ℕ, zero, suc, ◌+◌, ◌-◌, ◌*◌, ◌/◌, ◌<◌, ◌≤◌, min, Bool, true, false, cond, List, [], ◌∷◌, ◌++◌, length, take, drop, sym, refl, ap, ◌∙◌, subst, mul-zero, zero-add, arith}
+use Rattle.std.proofs.Common.{◌≡◌, ℕ, zero, suc, ◌+◌, ◌-◌, ◌*◌, ◌/◌, ◌<◌, ◌≤◌, min, Bool, true, false, List, [], ◌∷◌, ◌++◌, length, sym, refl, ap, ◌∙◌, subst, mul-zero, zero-add, arith}
 use native.Mathlib.Nat.{div-eq_of_lt}
-use Rattle.std.proofs.lemmas.List.{append-nil, length-append}
+use Rattle.std.proofs.lemmas.List.{length-append}
 use Rattle.ata.specs.declared.answer.End.{End}
 use Rattle.ata.specs.declared.answer.End.TheVariants.{Done, Stopped, Cut}
 use Rattle.ata.specs.declared.task.AtaCommand.TheVariants.{CheckPowerMode}
-use Rattle.ata.specs.Machine.{Content, Step, flush_step, idle_step, Oracle, steps, begun}
-use Rattle.ata.specs.Words.{wide, through, blocks_of}
+use Rattle.ata.specs.Machine.{Step, flush_step, idle_step, Oracle, begun}
+use Rattle.ata.specs.Words.{wide, through}
 use Rattle.ata.specs.Commands.{State, Formed, size, reads, writes, blocks}
 use Rattle.ata.specs.Exchange.{Exchange, Agrees}
 use Rattle.ata.proofs.Joins.{begun_few}
@@ -14,11 +14,10 @@ use Rattle.ata.proofs.Ranges.{length_reads, length_writes, length_blocks}
 use Rattle.transfer.specs.declared.counts.Tally.{Tally}
 use Rattle.transfer.specs.declared.tasks.Width.{Width}
 use Rattle.transfer.specs.declared.writing.Force.{Force}
-use Rattle.transfer.specs.declared.writing.Force.TheVariants.{Cached, Through, Flushed}
-use Rattle.transfer.specs.Tasks.{width_of, piece, task, flush_task}
+use Rattle.transfer.specs.Tasks.{width_of, piece, task}
 use Rattle.transfer.specs.Talk.{Verdict, Ask, Held, none_yet}
 use Rattle.transfer.specs.Asks.{plain_ask, read_ask, write_ask, cut, pieces, flush_beside, read_asks, write_asks, goes_through, is_flushed}
-use Rattle.transfer.specs.Steps.{flush_steps, flushes, read_steps, write_steps, told_by, bytes_by, pieces_of, commands_by, finished_by, read_commands, read_finished, write_commands, none_finished, after_commands, Stepped}
+use Rattle.transfer.specs.Steps.{flush_steps, flushes, read_steps, write_steps, bytes_by, pieces_of, commands_by, read_commands, read_finished, write_commands, none_finished, after_commands, Stepped}
 use Rattle.transfer.proofs.Buffer.{put_start}
 use Rattle.transfer.proofs.Groups.{Group, group, commands_of, finished_of, cut_groups, commands_cut, finished_cut, commands_none, commands_nothing, commands_first, finished_first, commands_past, finished_past, pieces_zero, Bare, finished_bare, bare_cut}
 use Rattle.transfer.proofs.Plans.{Keep, Plan, Stepping, run, planned, cut_begun}

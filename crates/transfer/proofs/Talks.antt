@@ -1,5 +1,5 @@
 -- Conversations put together: a first command and the rest, one list of commands and then another.
-use Rattle.std.proofs.Common.{◌≡◌, ℕ, ◌+◌, List, [], ◌∷◌, ◌++◌, take, drop, Ok, Err, Result, sym, refl, ap, ◌∙◌, subst, arith}
+use Rattle.std.proofs.Common.{◌≡◌, ℕ, List, [], ◌∷◌, ◌++◌, Ok, Err, sym, refl, ap, ◌∙◌, subst, arith}
 use Rattle.ata.specs.declared.answer.Answer.{Answer}
 use Rattle.ata.specs.Exchange.{Exchange, exchange}
 use Rattle.transfer.specs.declared.faults.Fault.{Fault}

@@ -1,27 +1,17 @@
 -- READ, WRITE and the commands without data, as steps.
-use Rattle.std.proofs.Common.{◌≡◌, ℕ, zero, suc, ◌+◌, ◌-◌, ◌*◌, ◌/◌, ◌<◌, ◌≤◌, min, max, Bool, true, false, cond, List, [], ◌∷◌, ◌++◌, length, take, drop, sym, refl, ap, ◌∙◌, subst, append_assoc, arith}
-use Rattle.std.proofs.lemmas.List.{append-nil, length-take, length-drop, drop-drop, drop-take, take-take, length-append}
-use Rattle.ata.specs.declared.answer.End.{End}
-use Rattle.ata.specs.declared.answer.End.TheVariants.{Done, Stopped, Cut}
-use Rattle.ata.specs.declared.task.AtaCommand.TheVariants.{CheckPowerMode}
-use Rattle.ata.specs.Machine.{Content, bytes, Machine, Step, read_step, flush_step, idle_step, Oracle, Outcome, steps, begun}
-use Rattle.ata.specs.Words.{wide, through, blocks_of, count_limit}
-use Rattle.ata.specs.Commands.{State, Formed, size, reads, writes, blocks, over}
-use Rattle.ata.specs.Exchange.{Exchange, Agrees}
-use Rattle.ata.proofs.Joins.{begun_few}
-use Rattle.ata.proofs.Ranges.{reads_split, writes_join, length_reads, length_writes, length_blocks}
-use Rattle.transfer.specs.declared.counts.Tally.{Tally}
+use Rattle.std.proofs.Common.{◌≡◌, ℕ, zero, suc, ◌+◌, ◌-◌, ◌*◌, ◌<◌, ◌≤◌, min, Bool, true, List, [], ◌∷◌, ◌++◌, length, take, drop, sym, refl, ap, ◌∙◌, append_assoc, arith}
+use Rattle.std.proofs.lemmas.List.{length-take, length-drop, drop-drop, drop-take, take-take}
+use Rattle.ata.specs.Machine.{Content, bytes, Step}
+use Rattle.ata.specs.Words.{wide, through, blocks_of}
+use Rattle.ata.specs.Commands.{State, Formed, reads, writes, blocks}
+use Rattle.ata.proofs.Ranges.{reads_split, writes_join, length_blocks}
 use Rattle.transfer.specs.declared.tasks.Width.{Width}
-use Rattle.transfer.specs.declared.writing.Force.{Force}
-use Rattle.transfer.specs.declared.writing.Force.TheVariants.{Cached, Through, Flushed}
-use Rattle.transfer.specs.Tasks.{width_of, limit, piece, task, flush_task}
-use Rattle.transfer.specs.Talk.{Verdict, Ask, Held, none_yet}
-use Rattle.transfer.specs.Asks.{plain_ask, read_ask, write_ask, cut, pieces, flush_beside, read_asks, write_asks, goes_through, is_flushed}
-use Rattle.transfer.specs.Steps.{flush_steps, read_steps, write_steps, told_by, bytes_by, pieces_of, commands_by, finished_by, after_commands, Stepped}
-use Rattle.transfer.proofs.Buffer.{put_start}
-use Rattle.transfer.proofs.Groups.{Group, group, commands_of, finished_of, cut_groups, commands_cut, finished_cut, commands_none, commands_first, finished_first, commands_past, finished_past, Bare, finished_bare, bare_cut}
-use Rattle.transfer.proofs.Plans.{Keep, Comes, Plan, Stepping, run, planned}
-use Rattle.transfer.proofs.Comings.{reach, comes_read, comes_write, comes_flush, comes_idle}
+use Rattle.transfer.specs.Tasks.{width_of, piece}
+use Rattle.transfer.specs.Talk.{Ask}
+use Rattle.transfer.specs.Asks.{read_ask, write_ask, cut}
+use Rattle.transfer.proofs.Groups.{Group, cut_groups}
+use Rattle.transfer.proofs.Plans.{Plan}
+use Rattle.transfer.proofs.Comings.{reach, comes_read, comes_write}
 
 -- a piece is as long as the drive allows, where the width is the drive's
 pub piece_is : (s : State) (w : Width) → Formed s → w ≡ width_of (wide s.words) → piece w s.most ≡ s.most

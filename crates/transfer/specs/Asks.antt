@@ -1,5 +1,5 @@
 -- What READ, WRITE and the commands without data ask of a drive.
-use Rattle.std.specs.Prelude.{ℕ, zero, suc, ◌+◌, ◌-◌, ◌*◌, ◌/◌, min, Bool, true, false, cond, List, [], ◌∷◌, ◌++◌, length, take, drop, Some, None, Ok, Err, Option}
+use Rattle.std.specs.Prelude.{ℕ, zero, suc, ◌+◌, ◌-◌, ◌*◌, ◌/◌, min, Bool, true, false, List, [], ◌∷◌, ◌++◌, length, take, drop, Some, None, Ok, Err, Option}
 use Rattle.ata.specs.declared.task.TaskFile.{TaskFile}
 use Rattle.ata.specs.Commands.{nothing, sends, fetches}
 use Rattle.transfer.specs.declared.tasks.Width.{Width}

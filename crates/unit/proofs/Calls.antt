@@ -1,5 +1,5 @@
 -- The course of a call, by what its request needs of the buffers.
-use Rattle.std.proofs.Common.{◌≡◌, ℕ, ◌*◌, ◌<◌, ◌≤◌, Bool, true, false, cond, ltb, List, length, Ok, Err, Result, sym, refl, ap, ◌∙◌, arith}
+use Rattle.std.proofs.Common.{◌≡◌, ℕ, ◌<◌, ◌≤◌, Bool, true, false, cond, ltb, List, length, Ok, Err, Result, refl, ap, ◌∙◌, arith}
 use Rattle.std.proofs.lemmas.Bool.Decides.{nat_tests}
 use Rattle.sense.specs.declared.refusal.Refusal.TheVariants.{DataOutShort, DataInShort}
 use Rattle.sense.specs.declared.case.Sense.{Sense}
@@ -10,7 +10,7 @@ use Rattle.cdb.specs.Requests.{received}
 use Rattle.unit.specs.declared.known.Facts.{Facts}
 use Rattle.unit.specs.declared.standing.Phase.{Phase}
 use Rattle.unit.specs.declared.standing.Phase.TheVariants.{Unfit, Attention, Ready}
-use Rattle.unit.specs.Courses.{Course, refused, course, taken_in, with_room, in_phase, course_of, past, phase_after, calm}
+use Rattle.unit.specs.Courses.{Course, refused, course, taken_in, in_phase, course_of, past, phase_after, calm}
 
 module _ (f : Facts) (p : Phase) (most : ℕ) (cdb out : List ℕ) (room : ℕ) (q : Request) (taken : received cdb ≡ Ok q) where
   abbrev by : Bool → Bool → Course

@@ -1,8 +1,8 @@
 -- What a command does to the blocks, whatever its course.
-use Rattle.std.proofs.Common.{◌≡◌, ℕ, ◌+◌, ◌-◌, ◌*◌, ◌/◌, ◌<◌, ◌≤◌, Bool, true, false, cond, ◌||◌, ltb, leb, ◌⊎◌, List, [], ◌∷◌, ◌++◌, length, take, drop, Ok, Err, Result, sym, refl, ap, ◌∙◌, subst, inl, inr, arith}
+use Rattle.std.proofs.Common.{◌≡◌, ℕ, ◌*◌, Bool, true, false, cond, List, [], ◌∷◌, length, take, Ok, Err, Result, sym, refl, ap, ◌∙◌, subst, arith}
 use Rattle.std.proofs.lemmas.Bool.Decides.{nat_tests}
 use Rattle.ata.specs.Words.{wide, through, blocks_of}
-use Rattle.ata.specs.Commands.{State, Formed, size, blocks}
+use Rattle.ata.specs.Commands.{State, Formed, blocks}
 use Rattle.ata.specs.Exchange.{Exchange, Agrees}
 use Rattle.sense.specs.declared.case.Sense.{Sense}
 use Rattle.sense.specs.declared.refusal.Refusal.{Refusal}

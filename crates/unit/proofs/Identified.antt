@@ -1,5 +1,5 @@
 -- A unit that begins fit remembers what is true of its drive.
-use Rattle.std.proofs.Common.{◌≡◌, ℕ, ◌+◌, ◌*◌, ◌<◌, ◌≤◌, Bool, true, false, cond, ltb, List, [], ◌∷◌, ◌++◌, length, get_or, drop, set, replicate, sym, refl, ap, ◌∙◌, subst, arith, get_or-set_other}
+use Rattle.std.proofs.Common.{◌≡◌, ℕ, ◌+◌, Bool, true, false, cond, List, [], ◌∷◌, ◌++◌, length, drop, replicate, sym, ap, ◌∙◌, arith, get_or-set_other}
 use Rattle.std.proofs.lemmas.List.{append-nil, length-set}
 use Rattle.ata.specs.declared.answer.Answer.{Answer}
 use Rattle.ata.specs.declared.answer.End.{End}
@@ -7,15 +7,14 @@ use Rattle.ata.specs.declared.answer.End.TheVariants.{Done, Stopped, Cut}
 use Rattle.ata.specs.declared.task.AtaCommand.TheVariants.{IdentifyDevice}
 use Rattle.ata.specs.Machine.{Oracle, Outcome, idle_step, steps}
 use Rattle.ata.specs.Words.{word, wide, through, blocks_of, showing}
-use Rattle.ata.specs.Commands.{State, Formed, Gave, size, fetches_words, gives, no_answer, ordered, answered, with_machine, over, told, tells, perform}
+use Rattle.ata.specs.Commands.{State, Formed, Gave, fetches_words, gives, no_answer, ordered, answered, over, told, tells, perform}
 use Rattle.ata.specs.Exchange.{Exchange, exchange, Agrees}
 use Rattle.transfer.specs.Tasks.{width_of, task}
-use Rattle.transfer.specs.Talk.{Verdict, judged}
+use Rattle.transfer.specs.Talk.{judged}
 use Rattle.unit.specs.declared.known.Facts.{Facts}
 use Rattle.unit.specs.declared.standing.Phase.{Phase}
 use Rattle.unit.specs.declared.standing.Phase.TheVariants.{Unfit, Attention, Ready}
-use Rattle.unit.specs.Fitness.{is_fit, KnownFrom}
-use Rattle.unit.specs.Attached.{fit_by, Begins, Identified, Knows, Remembers}
+use Rattle.unit.specs.Attached.{fit_by, Begins, Identified, Remembers}
 
 -- word 85 alone moves
 same_word : (on : Bool) (ws : List ℕ) (i : ℕ) → (i ≡ 85 → ⊥) → word (showing on ws) i ≡ word ws i

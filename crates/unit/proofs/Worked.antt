@@ -1,15 +1,13 @@
 -- READ, WRITE and TEST UNIT READY to a drive that is as the unit remembers it.
-use Rattle.std.proofs.Common.{◌≡◌, ℕ, ◌+◌, ◌-◌, ◌*◌, ◌/◌, ◌<◌, ◌≤◌, Bool, true, false, cond, List, [], ◌∷◌, ◌++◌, length, take, drop, Ok, Result, sym, refl, ap, ◌∙◌, subst, arith}
+use Rattle.std.proofs.Common.{◌≡◌, ℕ, ◌+◌, ◌*◌, ◌/◌, ◌≤◌, Bool, true, false, List, ◌++◌, length, take, drop, Ok, Result, sym, refl, ◌∙◌, subst, arith}
 use Rattle.std.proofs.lemmas.List.{length-take-le}
-use Rattle.ata.specs.Words.{wide, through}
 use Rattle.ata.specs.Commands.{State, Formed, size, blocks}
 use Rattle.ata.specs.Exchange.{Exchange, Agrees}
 use Rattle.ata.proofs.Ranges.{length_blocks}
 use Rattle.sense.specs.declared.refusal.Refusal.{Refusal}
 use Rattle.cdb.specs.declared.command.Extent.{Extent}
 use Rattle.transfer.specs.declared.counts.Tally.{Tally}
-use Rattle.transfer.specs.declared.writing.Force.{Force}
-use Rattle.transfer.specs.Tasks.{width_of, piece}
+use Rattle.transfer.specs.Tasks.{piece}
 use Rattle.transfer.specs.Talk.{Verdict, Held, none_yet}
 use Rattle.transfer.specs.Asks.{read_asks, write_asks, goes_through}
 use Rattle.transfer.specs.Steps.{Work, read_work, write_work, idle_work, write_steps, write_commands, none_finished, Stepped}
@@ -18,9 +16,9 @@ use Rattle.unit.specs.declared.known.Facts.{Facts}
 use Rattle.unit.specs.declared.replies.Reply.{Reply}
 use Rattle.unit.specs.Replies.{replied}
 use Rattle.unit.specs.Fitness.{InRange}
-use Rattle.unit.specs.Courses.{asks, power_check, force_by}
+use Rattle.unit.specs.Courses.{power_check, force_by}
 use Rattle.unit.specs.Attached.{Knows}
-use Rattle.unit.specs.Works.{Lit, Dark, Works}
+use Rattle.unit.specs.Works.{Lit, Dark}
 use Rattle.unit.proofs.Ranges.{whole_blocks}
 use Rattle.unit.proofs.Working.{shown_by, read_looks, write_looks, dark_by, read_starts, write_starts}
 

@@ -1,32 +1,28 @@
 -- What the unit's commands do to the blocks, from what it said to the drive.
-use Rattle.std.proofs.Common.{◌≡◌, ℕ, zero, suc, ◌+◌, ◌-◌, ◌*◌, ◌/◌, ◌<◌, ◌≤◌, min, Bool, true, false, cond, ◌⊎◌, List, [], ◌∷◌, ◌++◌, length, take, drop, Some, None, Ok, Err, Result, sym, refl, ap, ◌∙◌, subst, inl, inr, arith}
-use Rattle.std.proofs.lemmas.List.{take-append-drop, length-take-le}
+use Rattle.std.proofs.Common.{◌≡◌, ℕ, zero, suc, ◌+◌, ◌/◌, ◌≤◌, Bool, true, false, cond, List, [], ◌∷◌, ◌++◌, length, take, drop, None, Ok, Result, sym, refl, ap, ◌∙◌, subst, inl, inr}
+use Rattle.std.proofs.lemmas.List.{take-append-drop}
 use Rattle.ata.specs.declared.answer.End.{End}
 use Rattle.ata.specs.declared.answer.End.TheVariants.{Done, Stopped, Cut}
 use Rattle.ata.specs.declared.task.TaskFile.{TaskFile}
-use Rattle.ata.specs.Machine.{Content, Step, Oracle, Look, shown, steps, scored, idle_step}
-use Rattle.ata.specs.Words.{wide, through}
-use Rattle.ata.specs.Commands.{State, Formed, Gave, Load, room, size, reads, writes, blocks, over, ordered, gives, no_answer, taken, obeys, perform}
+use Rattle.ata.specs.Machine.{Content, Step, Oracle, Look, shown, steps, scored}
+use Rattle.ata.specs.Commands.{State, Gave, Load, room, reads, writes, blocks, over, ordered, gives, no_answer, taken, obeys, perform}
 use Rattle.ata.specs.Exchange.{Exchange, Agrees}
 use Rattle.ata.specs.Shows.{looks, next_look, written, read_shows, write_shows}
 use Rattle.ata.proofs.Power.{went}
 use Rattle.ata.proofs.Shown.{looks_reads, looks_writes, looks_join, never_cut}
-use Rattle.ata.proofs.Ranges.{length_blocks}
 use Rattle.sense.specs.declared.refusal.Refusal.{Refusal}
 use Rattle.sense.specs.declared.case.Sense.TheVariants.{NoAnswer}
 use Rattle.transfer.specs.declared.counts.Tally.{Tally}
 use Rattle.transfer.specs.declared.tasks.Width.{Width}
 use Rattle.transfer.specs.declared.writing.Force.{Force}
-use Rattle.transfer.specs.Tasks.{width_of, piece}
 use Rattle.transfer.specs.Talk.{Verdict, failed, judged, Ask, part, made, laid, counted, Held, none_yet}
-use Rattle.transfer.specs.Asks.{plain_ask, read_ask, write_ask, cut, pieces, flush_beside, read_asks, write_asks, goes_through, is_flushed}
-use Rattle.transfer.specs.Steps.{Work, read_work, write_work, idle_work, flush_steps, read_steps, write_steps, told_by, bytes_by, Stepped}
-use Rattle.transfer.proofs.Talks.{First, held_nil, held_first}
-use Rattle.transfer.proofs.Stepped.{read_stepped, write_stepped, idle_stepped}
+use Rattle.transfer.specs.Asks.{write_ask, cut, pieces, flush_beside, read_asks, write_asks, goes_through, is_flushed}
+use Rattle.transfer.specs.Steps.{Work, flush_steps, read_steps, write_steps, told_by, bytes_by, Stepped}
+use Rattle.transfer.proofs.Talks.{held_nil, held_first}
 use Rattle.unit.specs.declared.replies.Reply.{Reply}
 use Rattle.unit.specs.declared.replies.Reply.TheVariants.{Good}
 use Rattle.unit.specs.Replies.{replied}
-use Rattle.unit.specs.Works.{Shown, Lit, Dark, dark_state, dark_reply}
+use Rattle.unit.specs.Works.{Shown, Dark, dark_state, dark_reply}
 
 bytes_all : (e : End) (g f : ℕ) → (e ≡ Cut → ⊥) → bytes_by e g f ≡ g
 bytes_all Done g f h = refl

@@ -1,5 +1,5 @@
 -- How a unit begins.
-use Rattle.std.specs.Prelude.{◌≡◌, ℕ, Bool, true, false, List, [], replicate, Ok, Err}
+use Rattle.std.specs.Prelude.{◌≡◌, ℕ, Bool, true, false, List, replicate, Ok, Err}
 use Rattle.ata.specs.declared.answer.Answer.{Answer}
 use Rattle.ata.specs.declared.task.AtaCommand.TheVariants.{IdentifyDevice}
 use Rattle.ata.specs.Words.{wide, through}

@@ -1,5 +1,5 @@
 -- The words by which a drive is fit for a unit, and what the unit remembers of them.
-use Rattle.std.specs.Prelude.{◌≡◌, ℕ, ◌+◌, ◌*◌, ◌^◌, ◌<◌, ◌≤◌, Bool, true, false, cond, not, ◌&&◌, ◌⊎◌, List, length, ◌==◌, bit_and, nat_lt}
+use Rattle.std.specs.Prelude.{◌≡◌, ℕ, ◌+◌, ◌*◌, ◌^◌, ◌<◌, ◌≤◌, Bool, true, cond, not, ◌&&◌, ◌⊎◌, List, ◌==◌, bit_and, nat_lt}
 use Rattle.ata.specs.Words.{word, claims, wide, through, blocks_of}
 use Rattle.cdb.specs.declared.command.Extent.{Extent}
 use Rattle.transfer.specs.Tasks.{width_of}

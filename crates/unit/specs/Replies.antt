@@ -1,7 +1,6 @@
 -- What a command comes to.
 use Rattle.std.specs.Prelude.{None, Ok, Err}
 use Rattle.sense.specs.declared.case.Sense.{Sense}
-use Rattle.transfer.specs.declared.faults.Fault.{Fault}
 use Rattle.transfer.specs.declared.faults.Place.{Place}
 use Rattle.transfer.specs.declared.counts.Tally.{Tally}
 use Rattle.transfer.specs.Talk.{Verdict, none_yet}

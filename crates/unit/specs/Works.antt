@@ -1,5 +1,5 @@
 -- What a course does to a drive that is as the unit remembers it, in the words of blocks and free of pieces.
-use Rattle.std.specs.Prelude.{◌≡◌, ℕ, Bool, true, false, List, [], ◌∷◌, ◌++◌, length, take, drop, None, Ok, Err, Result}
+use Rattle.std.specs.Prelude.{◌≡◌, ℕ, true, false, List, [], ◌∷◌, ◌++◌, length, take, drop, None, Ok, Result}
 use Rattle.ata.specs.Machine.{Step, Look, scored}
 use Rattle.ata.specs.Commands.{State, over, ordered}
 use Rattle.sense.specs.declared.case.Sense.TheVariants.{NoAnswer}

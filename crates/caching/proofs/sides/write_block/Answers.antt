@@ -1,6 +1,5 @@
-use Rattle.std.proofs.Common.{◌≡◌, ℕ, ◌+◌, ◌*◌, ◌≤◌, Bool, cond, List, length, set, sym, ap, ◌∙◌, arith}
+use Rattle.std.proofs.Common.{◌≡◌, ◌+◌, ◌*◌, ◌≤◌, Bool, cond, List, length, set, sym, ap, ◌∙◌, arith}
 use Rattle.ata.specs.Machine.{Content, bytes}
-use Rattle.disk.specs.Cells.{with_cell}
 use Rattle.caching.specs.Sides.{media}
 use Rattle.caching.proofs.Writes.{write_done, face_faces, face_media, medium_media, medium_faces}
 use Rattle.caching.proofs.sides.write_block.Goals as goal

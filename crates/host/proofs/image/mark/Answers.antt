@@ -1,4 +1,4 @@
-use Rattle.std.proofs.Common.{◌≡◌, ◌+◌, ◌*◌, ◌≤◌, length, get_or, take, set, sym, refl, ap, ◌∙◌, arith}
+use Rattle.std.proofs.Common.{◌+◌, ◌*◌, get_or, sym, ap, ◌∙◌}
 use Rattle.std.proofs.lemmas.List.{set_past, take_all}
 use Rattle.std.proofs.lemmas.List.Sums.{fold_more}
 use Rattle.host.specs.Images.{spoiled, marked}

@@ -1,6 +1,5 @@
-use Rattle.std.proofs.Common.{◌≡◌, ℕ, ◌+◌, List, [], ◌∷◌, Ok, sym, refl, ap, ◌∙◌, subst, arith}
+use Rattle.std.proofs.Common.{List, [], ◌∷◌, Ok, sym, refl, ap, ◌∙◌, subst, arith}
 use Rattle.ata.specs.declared.task.TaskFile.{TaskFile}
-use Rattle.transfer.specs.Tasks.{flush_task}
 use Rattle.transfer.specs.Talk.{Ask, Held}
 use Rattle.transfer.specs.Asks.{plain_ask}
 use Rattle.transfer.proofs.Talks.{held_none, held_one}

@@ -1,4 +1,4 @@
-use Rattle.std.proofs.Common.{List, [], ◌∷◌, refl, subst}
+use Rattle.std.proofs.Common.{[], ◌∷◌, refl, subst}
 use Rattle.transfer.specs.declared.counts.Tally.{Tally}
 use Rattle.transfer.specs.Talk.{Held}
 use Rattle.transfer.specs.Asks.{plain_ask}

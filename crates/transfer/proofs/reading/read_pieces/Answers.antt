@@ -1,8 +1,8 @@
-use Rattle.std.proofs.Common.{◌≡◌, ℕ, ◌+◌, ◌-◌, ◌*◌, ◌/◌, ◌<◌, ◌≤◌, min, List, [], ◌∷◌, ◌++◌, length, take, drop, Ok, Err, sym, refl, ap, ◌∙◌, subst, arith}
+use Rattle.std.proofs.Common.{◌≡◌, ℕ, ◌+◌, ◌-◌, ◌*◌, ◌/◌, List, length, take, drop, Ok, Err, sym, refl, ap, ◌∙◌, subst, arith}
 use borrow.Rule.Slice.PartMut.{put_mid}
 use Rattle.std.proofs.lemmas.Result.{err_from_is_err_and}
 use Rattle.transfer.specs.Talk.{Ask, Held}
-use Rattle.transfer.specs.Asks.{read_ask, pieces}
+use Rattle.transfer.specs.Asks.{read_ask}
 use Rattle.transfer.proofs.Talks.{held_none, asked_more, asked_stop}
 use Rattle.transfer.proofs.Cuts.{pieces_none, pieces_more}
 use Rattle.transfer.proofs.reading.read_pieces.Goals as goal

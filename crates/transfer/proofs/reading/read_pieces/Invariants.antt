@@ -1,4 +1,4 @@
-use Rattle.std.proofs.Common.{◌≡◌, ℕ, ◌+◌, ◌-◌, ◌*◌, ◌/◌, ◌≤◌, List, length}
+use Rattle.std.proofs.Common.{ℕ, ◌+◌, ◌-◌, ◌*◌, ◌≤◌, List}
 use Rattle.transfer.specs.declared.counts.Tally.{Tally}
 use Rattle.transfer.specs.Talk.{Verdict, Held}
 use Rattle.transfer.specs.Asks.{read_ask, pieces}

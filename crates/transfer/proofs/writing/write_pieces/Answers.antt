@@ -1,7 +1,7 @@
-use Rattle.std.proofs.Common.{◌≡◌, ℕ, ◌+◌, ◌-◌, ◌*◌, ◌/◌, ◌<◌, ◌≤◌, min, List, [], ◌∷◌, ◌++◌, length, take, drop, Ok, Err, sym, refl, ap, ◌∙◌, subst, arith}
+use Rattle.std.proofs.Common.{◌≡◌, ◌+◌, ◌-◌, ◌*◌, ◌/◌, List, [], length, Ok, Err, sym, refl, ap, ◌∙◌, subst, arith}
 use Rattle.std.proofs.lemmas.Result.{err_from_is_err_and}
 use Rattle.transfer.specs.Talk.{Ask, Held}
-use Rattle.transfer.specs.Asks.{write_ask, pieces}
+use Rattle.transfer.specs.Asks.{write_ask}
 use Rattle.transfer.proofs.Talks.{held_none, asked_more, asked_stop}
 use Rattle.transfer.proofs.Cuts.{pieces_none, pieces_more}
 use Rattle.transfer.proofs.writing.write_pieces.Goals as goal

@@ -1,4 +1,4 @@
-use Rattle.std.proofs.Common.{◌≡◌, ◌<◌, ◌≤◌, length, sym, ◌∙◌, arith, length-take, get_or-take}
+use Rattle.std.proofs.Common.{sym, ◌∙◌, arith, length-take, get_or-take}
 use Rattle.bounded.proofs.list.Bounded.get.Goals as goal
 
 pub returns-then-at-places : goal.returns-then-at-places

@@ -1,4 +1,4 @@
-use Rattle.std.proofs.Common.{◌≡◌, ◌<◌, length, refl, arith, length-set}
+use Rattle.std.proofs.Common.{◌<◌, length, refl, arith, length-set}
 use Rattle.std.proofs.lemmas.List.{take_more_set}
 use Rattle.bounded.proofs.Held.{none_free, some_free}
 use Rattle.bounded.proofs.list.Bounded.push.Goals as goal

@@ -1,4 +1,4 @@
-use Rattle.std.proofs.Common.{vec_items, ap, arith, rules}
+use Rattle.std.proofs.Common.{vec_items, ap, rules}
 use Rattle.disk.specs.declared.power.Power.{Power}
 use Rattle.caching.specs.Sides.{faces, media}
 use Rattle.caching.specs.Levels.{level_at_first}

@@ -26,12 +26,17 @@ invariant_of-self c =
     let face = faces_after n items new slice (image_of d) b x is e (c.write_block.ensures.face n lt) in
     let deep = c.writes_deep-deep.result in
     let medium = media_after n items new slice (image_of d) b x deep is e (c.write_block.ensures.medium n lt) in
-    let lit : d.power.lit ≡ true = c.take_power.ensures.lit c.if-not-take_power.false ∙ c.requires.lit in record { whole = search rules; errors_fit = search rules; orders_fit = search rules; level = λ h.
-                ∥∥₁_map (d.level h)
-                (λ l.
-                medium
-                ∙ ap (λ (v : Bool). cond v (set (media n (image_of d)) b x) (media n (image_of d))) (deep_where_off c.args.through d.caching d.power.lit deep c.writes_deep-deep.ensures lit h)
-                ∙ ap (λ (z : List Content). set z b x) l ∙ sym face) }
+    let lit : d.power.lit ≡ true = c.take_power.ensures.lit c.if-not-take_power.false ∙ c.requires.lit in record {
+      whole = search rules;
+      errors_fit = search rules;
+      orders_fit = search rules;
+      level = λ h.
+          ∥∥₁_map (d.level h)
+          (λ l.
+          medium
+          ∙ ap (λ (v : Bool). cond v (set (media n (image_of d)) b x) (media n (image_of d))) (deep_where_off c.args.through d.caching d.power.lit deep c.writes_deep-deep.ensures lit h)
+          ∙ ap (λ (z : List Content). set z b x) l ∙ sym face);
+    }
 
 pub returns : goal.returns
 returns c =

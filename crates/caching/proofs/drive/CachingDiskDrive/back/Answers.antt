@@ -1,4 +1,4 @@
-use Rattle.std.proofs.Common.{◌≡◌, Bool, true, false, cond, List, None, sym, ap, ◌∙◌}
+use Rattle.std.proofs.Common.{Bool, true, cond, None, sym, ap, ◌∙◌}
 use Rattle.ata.specs.Commands.{with_machine, lit_again}
 use Rattle.disk.specs.declared.power.Power.{Power}
 use Rattle.disk.specs.Powers.{power}

@@ -1,5 +1,5 @@
 use Rattle.std.proofs.Common.{[], sym, refl, ◌∙◌}
-use Rattle.ata.specs.Commands.{nothing, sends, fetches, fetches_words}
+use Rattle.ata.specs.Commands.{nothing}
 use Rattle.port.proofs.Behind.{agrees_behind, agrees_stopped}
 use Rattle.port.proofs.over.PortDrive.no_data.Goals as goal
 

@@ -1,5 +1,5 @@
-use Rattle.std.proofs.Common.{[], sym, refl, ◌∙◌}
-use Rattle.ata.specs.Commands.{nothing, sends, fetches, fetches_words}
+use Rattle.std.proofs.Common.{sym, refl, ◌∙◌}
+use Rattle.ata.specs.Commands.{fetches_words}
 use Rattle.port.proofs.Behind.{agrees_behind, agrees_stopped}
 use Rattle.port.proofs.over.PortDrive.words_in.Goals as goal
 

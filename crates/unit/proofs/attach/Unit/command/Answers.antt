@@ -1,8 +1,7 @@
 use Rattle.std.proofs.Common.{◌≡◌, length, Ok, Err, sym, refl, ap, ◌∙◌, subst}
 use Rattle.sense.specs.declared.refusal.Refusal.TheVariants.{DataOutShort, DataInShort}
-use Rattle.cdb.specs.Requests.{received}
 use Rattle.cdb.proofs.Rooms.{received_room}
-use Rattle.unit.specs.Courses.{Course, refused, course, Comes, phase_after, in_phase}
+use Rattle.unit.specs.Courses.{Course, course, Comes, phase_after}
 use Rattle.unit.specs.Attached.{Remembers}
 use Rattle.unit.specs.Works.{Works}
 use Rattle.unit.proofs.Commanded.{phase_works, remembers_on}

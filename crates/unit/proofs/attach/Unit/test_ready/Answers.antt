@@ -1,5 +1,4 @@
-use Rattle.std.proofs.Common.{◌≡◌, [], Ok, refl, ap}
-use Rattle.unit.specs.Courses.{power_check}
+use Rattle.std.proofs.Common.{[], Ok, refl, ap}
 use Rattle.unit.proofs.attach.Unit.test_ready.Goals as goal
 
 pub returns : goal.returns
