@@ -37,7 +37,7 @@ impl Drive for PlainDisk {
           sectors = λ i. contents_sectors 513 0 x.blocks (image_of x) i;
         } };
 
-    ghost agrees = { first_of (Prim.search rules, Prim.grind (arith, Self.row.coded.inj)) };
+    ghost agrees = { λ x e y h. h };
 
     fn most(&self) -> u32 {
         MOST

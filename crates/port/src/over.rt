@@ -65,9 +65,9 @@ impl<D: Drive> Drive for Port<D> {
 
     ghost does = { λ p e q. Agrees (limited p.limit (D.Drive.meaning p.inner)) e (limited q.limit (D.Drive.meaning q.inner)) };
 
-    ghost formed = { first_of (Prim.search rules, Prim.grind (arith, Self.row.coded.inj)) };
+    ghost formed = { Prim.search rules };
 
-    ghost agrees = { first_of (Prim.search rules, Prim.grind (arith, Self.row.coded.inj)) };
+    ghost agrees = { λ x e y h. h };
 
     fn most(&self) -> u32 {
         self.inner.most().min(self.limit)
