@@ -43,6 +43,8 @@ def declared():
 def turned(name):
     if name in CHOSEN:
         return CHOSEN[name]
+    # the library's word for it has another name now
+    name = re.sub(r"^getD-", "get_or-", name)
     if name[0].isupper():
         return re.sub(r"-(\w)", lambda m: m.group(1).upper(), name)
     name = re.sub(r"(?<=[a-z0-9])([A-Z])", lambda m: "_" + m.group(1).lower(), name) if re.match(r"^[a-z]+[A-Z][A-Za-z]*$", name) else name

@@ -2,11 +2,11 @@
 use Rattle.std.proofs.Common.{◌≡◌, ℕ, ◌+◌, ◌*◌, ◌<◌, Bool, true, false, ◌&&◌, List, get_or, sym, refl, ap, ◌∙◌, arith}
 use Rattle.ata.specs.Machine.{unreadable}
 use Rattle.disk.specs.Cells.{cell_at}
-use Rattle.disk.proofs.Images.{getD_contents}
+use Rattle.disk.proofs.Images.{get_or_contents}
 use Rattle.caching.specs.Sides.{faces}
 
 pub face_at : (n : ℕ) (image slice : List ℕ) (b : ℕ) → slice ≡ image → b < n → get_or (faces n image) b unreadable ≡ cell_at slice (1026 * b + 513)
-face_at n image slice b e h = getD_contents 1026 513 n image b unreadable h ∙ ap (λ (xs : List ℕ). cell_at xs (1026 * b + 513)) (sym e)
+face_at n image slice b e h = get_or_contents 1026 513 n image b unreadable h ∙ ap (λ (xs : List ℕ). cell_at xs (1026 * b + 513)) (sym e)
 
 pub first_true : (a b v : Bool) → v ≡ (a && b) → v ≡ true → a ≡ true
 first_true true b v e t = refl

@@ -7,7 +7,7 @@ use Rattle.disk.specs.Cells.{inside, cell_at, contents}
 use Rattle.disk.specs.Copied.{with_copy}
 use Rattle.disk.proofs.Cells.{inside_true}
 use Rattle.disk.proofs.Copies.{contents_copied, contents_kept}
-use Rattle.disk.proofs.Images.{length_contents, getD_contents, apart}
+use Rattle.disk.proofs.Images.{length_contents, get_or_contents, apart}
 use Rattle.caching.specs.Sides.{Sides}
 
 -- the copy of one cell, where both lie inside
@@ -41,7 +41,7 @@ to_more from to n first image new b s l h e f t =
     let k = cell_at image (1026 * b + from) in
     let src = contents 1026 from n first in
     let dst = contents 1026 to n image in
-    let is : get_or src b unreadable ≡ k = ap (λ (xs : List Content). get_or xs b unreadable) (sym f) ∙ getD_contents 1026 from n image b unreadable h in
+    let is : get_or src b unreadable ≡ k = ap (λ (xs : List Content). get_or xs b unreadable) (sym f) ∙ get_or_contents 1026 from n image b unreadable h in
     ap (λ (xs : List ℕ). take (b + 1) (contents 1026 to n xs)) e
     ∙ ap (λ (xs : List Content). take (b + 1) xs) (contents_copied 1026 to n image (1026 * b + from) b h (omega arith) (λ k lt. omega arith) (omega arith))
     ∙ take_more_set dst b k (omega (arith, length_contents 1026 to n image))

@@ -6,7 +6,7 @@ use Rattle.ata.specs.Machine.{Content, unreadable, bytes}
 use Rattle.disk.specs.Cells.{cell_at, contents}
 use Rattle.disk.specs.Copied.{with_copy}
 use Rattle.disk.proofs.Cells.{cell_inside, inside_true}
-use Rattle.disk.proofs.Images.{length_contents, getD_contents, apart}
+use Rattle.disk.proofs.Images.{length_contents, get_or_contents, apart}
 
 pub length_with_copy : (image : List ℕ) (from to : ℕ) → from + 513 ≤ length image → to + 513 ≤ length image → length (with_copy image from to) ≡ length image
 unfolding with_copy
@@ -94,7 +94,7 @@ contents_copied stride offset n image from b h g l f =
     (length_contents stride offset n new ∙ sym (length-set (contents stride offset n image) b (cell_at image from) ∙ length_contents stride offset n image))
     (λ k d q.
     let lt : k < n = omega (arith, length_contents stride offset n new) in
-    getD_contents stride offset n new k d lt ∙ at_block k d lt (eqb_tells k b))
+    get_or_contents stride offset n new k d lt ∙ at_block k d lt (eqb_tells k b))
   where
     new : List ℕ
     new = with_copy image from (stride * b + offset)
@@ -105,7 +105,7 @@ contents_copied stride offset n image from b h g l f =
         rw q.1 (cell_copied image from (stride * b + offset) f (l b h) ∙ sym (get_or-set_same (contents stride offset n image) b (cell_at image from) d lb))
     at_block k d lt (inr q) =
         cell_kept image from (stride * b + offset) (stride * k + offset) f (l b h) (l k lt) (apart stride offset offset k b (omega arith) (omega arith) q.1)
-        ∙ sym (get_or-set_other (contents stride offset n image) b k (cell_at image from) d q.1 ∙ getD_contents stride offset n image k d lt)
+        ∙ sym (get_or-set_other (contents stride offset n image) b k (cell_at image from) d q.1 ∙ get_or_contents stride offset n image k d lt)
 
 -- a copy to another cell than those of an offset
 pub contents_kept : (stride offset n : ℕ) (image : List ℕ) (from to : ℕ) → from + 513 ≤ length image → to + 513 ≤ length image → Inside stride offset n image → ((k : ℕ) → k < n → (stride * k + offset + 513 ≤ to) ⊎ (to + 513 ≤ stride * k + offset)) → contents stride offset n (with_copy image from to) ≡ contents stride offset n image
@@ -114,4 +114,4 @@ contents_kept stride offset n image from to f h l away =
     (length_contents stride offset n (with_copy image from to) ∙ sym (length_contents stride offset n image))
     (λ k d q.
     let lt : k < n = omega (arith, length_contents stride offset n (with_copy image from to)) in
-    getD_contents stride offset n (with_copy image from to) k d lt ∙ cell_kept image from to (stride * k + offset) f h (l k lt) (away k lt) ∙ sym (getD_contents stride offset n image k d lt))
+    get_or_contents stride offset n (with_copy image from to) k d lt ∙ cell_kept image from to (stride * k + offset) f h (l k lt) (away k lt) ∙ sym (get_or_contents stride offset n image k d lt))

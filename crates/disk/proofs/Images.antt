@@ -12,16 +12,16 @@ pub length_contents : (stride offset n : ℕ) (image : List ℕ) → length (con
 unfolding contents
 length_contents stride offset n image = length-map-range_with_len (λ b. cell_at image (stride * b + offset)) 0 n
 
-pub getD_contents : (stride offset n : ℕ) (image : List ℕ) (b : ℕ) (d : Content) → b < n → get_or (contents stride offset n image) b d ≡ cell_at image (stride * b + offset)
+pub get_or_contents : (stride offset n : ℕ) (image : List ℕ) (b : ℕ) (d : Content) → b < n → get_or (contents stride offset n image) b d ≡ cell_at image (stride * b + offset)
 unfolding contents
-getD_contents stride offset n image b d h = get_or-map-range_with_len (λ b. cell_at image (stride * b + offset)) 0 n b b d h (omega arith)
+get_or_contents stride offset n image b d h = get_or-map-range_with_len (λ b. cell_at image (stride * b + offset)) 0 n b b d h (omega arith)
 
 pub contents_sectors : (stride offset n : ℕ) (image : List ℕ) (k : ℕ) → Sector (get_or (contents stride offset n image) k unreadable)
 contents_sectors stride offset n image k = by (leb_tells n k)
   where
     by : ((leb n k ≡ true) × (n ≤ k)) ⊎ ((leb n k ≡ false) × (k < n)) → Sector (get_or (contents stride offset n image) k unreadable)
     by (inl t) = rw (get_or_past (contents stride offset n image) k unreadable (omega (arith, t.1, length_contents stride offset n image))) tt
-    by (inr t) = rw (getD_contents stride offset n image k unreadable t.1) (cell_sector image (stride * k + offset))
+    by (inr t) = rw (get_or_contents stride offset n image k unreadable t.1) (cell_sector image (stride * k + offset))
 
 -- cells of different blocks share no byte where the stride holds a cell
 pub apart : (stride offset other k b : ℕ) → other + 513 ≤ stride + offset → offset + 513 ≤ stride + other → k ≢ b → (stride * k + other + 513 ≤ stride * b + offset) ⊎ (stride * b + offset + 513 ≤ stride * k + other)
@@ -46,7 +46,7 @@ contents_write stride offset n image xs b h g l e =
     (length_contents stride offset n new ∙ sym (length-set (contents stride offset n image) b (bytes xs) ∙ length_contents stride offset n image))
     (λ k d q.
     let lt : k < n = omega (arith, length_contents stride offset n new) in
-    getD_contents stride offset n new k d lt ∙ at_block k d lt (eqb_tells k b))
+    get_or_contents stride offset n new k d lt ∙ at_block k d lt (eqb_tells k b))
   where
     new : List ℕ
     new = with_cell image (stride * b + offset) xs
@@ -57,7 +57,7 @@ contents_write stride offset n image xs b h g l e =
         rw q.1 (cell_same image xs (stride * b + offset) l e ∙ sym (get_or-set_same (contents stride offset n image) b (bytes xs) d lb))
     at_block k d lt (inr q) =
         cell_other image xs (stride * b + offset) (stride * k + offset) l e (apart stride offset offset k b (omega arith) (omega arith) q.1)
-        ∙ sym (get_or-set_other (contents stride offset n image) b k (bytes xs) d q.1 ∙ getD_contents stride offset n image k d lt)
+        ∙ sym (get_or-set_other (contents stride offset n image) b k (bytes xs) d q.1 ∙ get_or_contents stride offset n image k d lt)
 
 -- a write to another cell than those of an offset
 pub contents_apart : (stride offset n : ℕ) (image xs : List ℕ) (at : ℕ) → at + 513 ≤ length image → length xs ≡ 512 → ((k : ℕ) → k < n → (stride * k + offset + 513 ≤ at) ⊎ (at + 513 ≤ stride * k + offset)) → contents stride offset n (with_cell image at xs) ≡ contents stride offset n image
@@ -66,4 +66,4 @@ contents_apart stride offset n image xs at l e away =
     (length_contents stride offset n (with_cell image at xs) ∙ sym (length_contents stride offset n image))
     (λ k d q.
     let lt : k < n = omega (arith, length_contents stride offset n (with_cell image at xs)) in
-    getD_contents stride offset n (with_cell image at xs) k d lt ∙ cell_other image xs at (stride * k + offset) l e (away k lt) ∙ sym (getD_contents stride offset n image k d lt))
+    get_or_contents stride offset n (with_cell image at xs) k d lt ∙ cell_other image xs at (stride * k + offset) l e (away k lt) ∙ sym (get_or_contents stride offset n image k d lt))

@@ -7,13 +7,13 @@ use Rattle.disk.specs.declared.power.Power.{Power}
 use Rattle.disk.specs.Cells.{inside, cell_at, with_cell, contents}
 use Rattle.disk.specs.Powers.{machine_with}
 use Rattle.disk.proofs.Cells.{inside_true}
-use Rattle.disk.proofs.Images.{getD_contents, contents_write}
+use Rattle.disk.proofs.Images.{get_or_contents, contents_write}
 use Rattle.plain.specs.Meaning.{store_of}
 
 pub face_at : (n : ℕ) (image slice : List ℕ) (b : ℕ) → slice ≡ image → b < n → get_or (contents 513 0 n image) b unreadable ≡ cell_at slice (513 * b)
 face_at n image slice b e h =
     let z : 513 * b + 0 ≡ 513 * b = omega arith in
-    getD_contents 513 0 n image b unreadable h ∙ ap (λ (at : ℕ). cell_at image at) z ∙ ap (λ (xs : List ℕ). cell_at xs (513 * b)) (sym e)
+    get_or_contents 513 0 n image b unreadable h ∙ ap (λ (at : ℕ). cell_at image at) z ∙ ap (λ (xs : List ℕ). cell_at xs (513 * b)) (sym e)
 
 pub first_true : (a b v : Bool) → v ≡ (a && b) → v ≡ true → a ≡ true
 first_true true b v e t = refl

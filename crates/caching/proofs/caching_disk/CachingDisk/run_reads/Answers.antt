@@ -7,7 +7,7 @@ use Rattle.ata.specs.Commands.{reads}
 use Rattle.disk.specs.Quiet.{quiet, Reached}
 use Rattle.disk.proofs.Buffers.{over_front, rest_kept, filled}
 use Rattle.disk.proofs.Runs.{reached_none, reached_more, reached_end, reached_all}
-use Rattle.disk.proofs.Transfers.{length_reads, getD_reads}
+use Rattle.disk.proofs.Transfers.{length_reads, get_or_reads}
 use Rattle.caching.specs.Meaning.{machine_of}
 use Rattle.caching.proofs.Keeps.{kept_all, kept_on, put_none, untouched_is}
 use Rattle.caching.proofs.caching_disk.CachingDisk.run_reads.Goals as goal
@@ -27,7 +27,7 @@ loop-i-preserved c =
     let front : take (512 * (i + 1)) (put_mid (512 * i) k out new) ≡ take (512 * i) out ++ new = take-put_mid (512 * i) k out new (512 * (i + 1)) (omega arith) in-it in (
       subst (λ (g : List ℕ). Reached (reads b n) (machine_of c.args.self.now) (i + 1) g (machine_of c.read_step.new.self)) (sym front)
           (reached_more (reads b n) (machine_of c.args.self.now) i (take (512 * i) out) (machine_of c.loop-i.self) (read_step (b + i)) new (machine_of c.read_step.new.self)
-          c.loop-i.invariant.0 (omega (arith, length_reads b n)) (getD_reads b n i c.loop-i-test.true) c.in-Done.ensures.stepped),
+          c.loop-i.invariant.0 (omega (arith, length_reads b n)) (get_or_reads b n i c.loop-i-test.true) c.in-Done.ensures.stepped),
       rest_kept i k out c.args.into.now new (omega arith) in-it (omega arith) c.loop-i.invariant.1,
       kept_on c.args.self.now c.loop-i.self c.read_step.new.self c.loop-i.invariant.2 c.read_step.ensures.kept,
     )
@@ -47,7 +47,7 @@ returns-in_default c =
     record {
       ran = filled run z g (machine_of c.read_step.new.self) c.args.into.now (put_mid (512 * i) k out new)
           (reached_end (reads b n) (machine_of c.args.self.now) i g (machine_of c.loop-i.self) (read_step (b + i)) z (machine_of c.read_step.new.self)
-          c.loop-i.invariant.0 (omega (arith, length_reads b n)) (getD_reads b n i c.loop-i-test.true) stepped c.in_default.not-Done)
+          c.loop-i.invariant.0 (omega (arith, length_reads b n)) (get_or_reads b n i c.loop-i-test.true) stepped c.in_default.not-Done)
           (ap (λ (ys : List ℕ). put_mid (512 * i) k out ys) (untouched_is z _ new c.in_default.not-Done c.read_step.ensures.untouched)
           ∙ put_same (512 * i) k out ∙ over_front (512 * i) out c.args.into.now (omega arith) c.loop-i.invariant.1);
       kept = kept_on c.args.self.now c.loop-i.self c.read_step.new.self c.loop-i.invariant.2 c.read_step.ensures.kept;

@@ -2,7 +2,7 @@ use Rattle.std.proofs.Common.{◌+◌, [], arith}
 use Rattle.ata.specs.Machine.{verify_step}
 use Rattle.ata.specs.Commands.{verifies}
 use Rattle.disk.proofs.Runs.{reached_none, reached_more, reached_end, reached_all}
-use Rattle.disk.proofs.Transfers.{length_verifies, getD_verifies}
+use Rattle.disk.proofs.Transfers.{length_verifies, get_or_verifies}
 use Rattle.plain.specs.Meaning.{machine_of}
 use Rattle.plain.proofs.Keeps.{kept_all, kept_on}
 use Rattle.plain.proofs.plain_disk.PlainDisk.run_verifies.Goals as goal
@@ -16,7 +16,7 @@ loop-i-preserved c =
     let n = c.args.count in
     let i = c.loop-i.i in (
       reached_more (verifies b n) (machine_of c.args.self.now) i [] (machine_of c.loop-i.self) (verify_step (b + i)) [] (machine_of c.verify_step.new.self)
-          c.loop-i.invariant.0 (omega (arith, length_verifies b n)) (getD_verifies b n i c.loop-i-test.true) c.in-Done.ensures.stepped,
+          c.loop-i.invariant.0 (omega (arith, length_verifies b n)) (get_or_verifies b n i c.loop-i-test.true) c.in-Done.ensures.stepped,
       kept_on c.args.self.now c.loop-i.self c.verify_step.new.self c.loop-i.invariant.1 c.verify_step.ensures.kept,
     )
 
@@ -28,7 +28,7 @@ returns-in_default c =
     record {
       ran =
           reached_end (verifies b n) (machine_of c.args.self.now) i [] (machine_of c.loop-i.self) (verify_step (b + i)) c.verify_step.result (machine_of c.verify_step.new.self)
-          c.loop-i.invariant.0 (omega (arith, length_verifies b n)) (getD_verifies b n i c.loop-i-test.true) c.verify_step.ensures.stepped c.in_default.not-Done;
+          c.loop-i.invariant.0 (omega (arith, length_verifies b n)) (get_or_verifies b n i c.loop-i-test.true) c.verify_step.ensures.stepped c.in_default.not-Done;
       kept = kept_on c.args.self.now c.loop-i.self c.verify_step.new.self c.loop-i.invariant.1 c.verify_step.ensures.kept;
     }
 
