@@ -1,4 +1,4 @@
-use Rattle.std.proofs.Common.{◌≡◌, ℕ, ◌/◌, Bool, List, length, Err, ap, ◌∙◌, subst}
+use Rattle.std.proofs.Common.{◌≡◌, ℕ, ◌/◌, Bool, List, length, Err, ap, ◌∙◌, subst, rules}
 use Rattle.std.proofs.lemmas.Result.{err_from_is_err_and}
 use Rattle.transfer.specs.Tasks.{piece}
 use Rattle.transfer.specs.Talk.{Ask, Held}
@@ -32,5 +32,5 @@ returns g c b =
     c.args.drive.now c.write_pieces.new.drive c.flush_beside.new.drive b b b c.args.tally.now c.write_pieces.new.tally c.flush_beside.new.tally c.write_pieces.result c.flush_beside.result _ c.in_ok-write_pieces.was
     (subst (λ (ks : List Ask). Held g.D.Drive.does ks c.args.drive.now b c.args.tally.now c.write_pieces.new.drive b c.write_pieces.new.tally c.write_pieces.result) is
     (c.write_pieces.ensures.talk b))
-    (subst (λ (v : Bool). Held g.D.Drive.does (flush_beside c.args.width v n) c.write_pieces.new.drive b c.write_pieces.new.tally c.flush_beside.new.drive b c.flush_beside.new.tally c.flush_beside.result) c.is_flushed.ensures
+    (subst (λ (v : Bool). Held g.D.Drive.does (flush_beside c.args.width v n) c.write_pieces.new.drive b c.write_pieces.new.tally c.flush_beside.new.drive b c.flush_beside.new.tally c.flush_beside.result) (search rules)
     (c.flush_beside.ensures.talk b))
