@@ -1,5 +1,5 @@
 -- What a search by position says of the slip that is picked, and of the others.
-use Rattle.std.proofs.Common.{◌≡◌, ℕ, zero, suc, ◌<◌, Bool, true, false, eqb, List, [], ◌∷◌, length, get_or, Some, None, refl, ap, suc-le-suc, le_of_suc-le-suc, not-suc-le-zero, arith, eq-eqb, ne_eqb}
+use Rattle.std.proofs.Common.{◌≡◌, ℕ, zero, suc, true, false, eqb, List, [], ◌∷◌, get_or, Some, None, refl, ap, suc-le-suc, le_of_suc-le-suc, not-suc-le-zero, arith, eq-eqb, ne_eqb}
 use Rattle.std.specs.List.{remove}
 use Rattle.slips.specs.declared.slips.Slip.{Slip}
 use Rattle.hand.specs.Hands.{blank, Absent, At, picked, without}

@@ -3,12 +3,12 @@ use Rattle.std.specs.Prelude.{◌≡◌, ℕ, List, [], ◌∷◌, ◌++◌, Ok,
 use Rattle.ata.specs.Commands.{State}
 use Rattle.ata.specs.Exchange.{Exchange}
 use Rattle.sense.specs.declared.refusal.Refusal.{Refusal}
-use Rattle.unit.specs.Commanded.{Commanded}
+use Rattle.slips.specs.Commanded.{Commanded}
 use Rattle.slips.specs.declared.attached.Unit.{Unit as Bay}
 use Rattle.slips.specs.declared.slips.Slip.{Slip}
 use Rattle.slips.specs.declared.replies.Reply.{Reply}
 use Rattle.slips.specs.declared.replies.Reply.TheVariants.{Good, Check}
-use Rattle.slips.specs.Slips.{line_of, status_of, Numbered}
+use Rattle.slips.specs.Slips.{line_of, inner_reply, Numbered}
 use Rattle.hand.specs.declared.commands.Answer.{Answer}
 use Rattle.hand.specs.declared.commands.Answer.TheVariants.{Good as GoodAnswer, Check as CheckAnswer, Refused}
 
@@ -26,7 +26,7 @@ handed (Ok (Check s q)) = s ∷ []
 -- The unit answered by its contract, and its slip, where there is one, is now the last in hand.
 pub record Answered {D : Type 0} (does : D → Exchange → D → Type 0) (meaning : D → State) (u : Bay D) (ss : List Slip) (cdb out before : List ℕ) (v : Bay D) (ss' : List Slip) (after : List ℕ) (a : Answer) : Type 0 where
   pub reply : Result Reply Refusal
-  pub commanded : Commanded does meaning u.translator cdb out before v.translator after (status_of reply)
+  pub commanded : Commanded does meaning u.inner cdb out before v.inner after (inner_reply reply)
   pub numbered : Numbered u.issued cdb reply v.issued
   pub answer : a ≡ told reply
   pub hand : ss' ≡ ss ++ handed reply

@@ -1,7 +1,7 @@
 -- Slips in hand: which is found by a number, and what entering it and giving it up leave.
-use Rattle.std.specs.Prelude.{◌≡◌, ℕ, zero, suc, ◌+◌, ◌<◌, min, Bool, true, false, cond, List, [], ◌∷◌, length, Some, None, Ok, Err, vec_items, Option, Result, ◌==◌, ◌≢◌, slice_index_or}
+use Rattle.std.specs.Prelude.{◌≡◌, ℕ, zero, suc, ◌<◌, Bool, true, false, cond, List, [], ◌∷◌, length, Some, None, Ok, Err, vec_items, Option, Result, ◌==◌, ◌≢◌, slice_index_or}
 use Rattle.sense.specs.declared.case.Sense.TheVariants.{NoSense}
-use Rattle.sense.specs.declared.refusal.Refusal.TheVariants.{SheetFull}
+use Rattle.slips.specs.declared.refusal.SheetRefusal.TheVariants.{SheetFull}
 use Rattle.transfer.specs.declared.faults.Place.TheVariants.{Unit as UnitPlace}
 use Rattle.slips.specs.declared.slips.Slip.{Slip}
 use Rattle.slips.specs.declared.slips.Line.{Line}

@@ -5,8 +5,7 @@ ghost use Rattle.slips.specs.Slips.{line_of};
 ghost use Rattle.slips.specs.Sheets.{sheet_of};
 ghost use Rattle.hand.specs.Hands.{slips_of, blank, Absent, At, picked, without, is_held, Enters, GivesUp, all_given_up};
 
-use sense::Refusal;
-use slips::{Line, RunSheet, Slip};
+use slips::{Line, RunSheet, SheetRefusal, Slip};
 use std::alloc::{AllocError, Global};
 
 /// The slips that were handed out and not yet entered or given up, in the order in which they came.
@@ -18,7 +17,7 @@ pub struct Hand {
 #[derive(Clone, Copy)]
 pub enum NotEntered {
     NotInHand,
-    Refused(Refusal),
+    Refused(SheetRefusal),
 }
 
 impl Hand {
@@ -104,7 +103,7 @@ impl Hand {
     {
         if sheet.is_full() {
             return match self.holds(number) {
-                true => Err(NotEntered::Refused(Refusal::SheetFull)),
+                true => Err(NotEntered::Refused(SheetRefusal::SheetFull)),
                 false => Err(NotEntered::NotInHand),
             };
         }

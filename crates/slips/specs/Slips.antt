@@ -1,8 +1,8 @@
 -- Slips: their numbers, what a line repeats of one, and which command hands one out.
 use Rattle.std.specs.Prelude.{◌≡◌, ℕ, ◌+◌, min, List, Ok, Err, Result, slice_index}
 use Rattle.sense.specs.declared.refusal.Refusal.{Refusal}
-use Rattle.unit.specs.declared.statuses.Status.{Status}
-use Rattle.unit.specs.declared.statuses.Status.TheVariants.{Good as GoodStatus, Check as CheckStatus}
+use Rattle.unit.specs.declared.replies.Reply.{Reply as InnerReply}
+use Rattle.unit.specs.declared.replies.Reply.TheVariants.{Good as InnerGood, Check as InnerCheck}
 use Rattle.slips.specs.declared.slips.Slip.{Slip}
 use Rattle.slips.specs.declared.slips.Line.{Line}
 use Rattle.slips.specs.declared.replies.Reply.{Reply}
@@ -17,10 +17,10 @@ abbrev pub next_number : ℕ → ℕ
 next_number n = min (n + 1) 18446744073709551615
 
 -- what a reply says beside the number and the code of its slip
-abbrev pub status_of : Result Reply Refusal → Result Status Refusal
-status_of (Err n) = Err n
-status_of (Ok (Good q)) = Ok (GoodStatus q)
-status_of (Ok (Check s q)) = Ok (CheckStatus s.fault q)
+abbrev pub inner_reply : Result Reply Refusal → Result InnerReply Refusal
+inner_reply (Err n) = Err n
+inner_reply (Ok (Good q)) = Ok (InnerGood q)
+inner_reply (Ok (Check s q)) = Ok (InnerCheck s.fault q)
 
 -- A CHECK CONDITION hands out the slip of the next number, with the CDB's code; nothing else moves the number.
 abbrev pub Numbered : ℕ → List ℕ → Result Reply Refusal → ℕ → Type 0

@@ -3,7 +3,8 @@
 ghost use Rattle.std.specs.Prelude.{◌≡◌};
 ghost use Rattle.slips.specs.Slips.{line_of};
 
-use sense::{Refusal, Sense};
+use crate::refusal::SheetRefusal;
+use sense::Sense;
 use transfer::{Fault, Place};
 
 /// What a failed command hands out: a running number, the CDB's code, and the fault. Only a unit makes one.
@@ -23,7 +24,7 @@ pub struct Line {
 
 /// A slip that was refused, and why.
 pub struct HandedBack {
-    pub refusal: Refusal,
+    pub refusal: SheetRefusal,
     pub slip: Slip,
 }
 

@@ -1,4 +1,4 @@
-use Rattle.std.proofs.Common.{◌≡◌, ◌<◌, length, vec_items, ap, ◌∙◌, arith}
+use Rattle.std.proofs.Common.{◌<◌, length, vec_items, ap, ◌∙◌, arith}
 use borrow.Author.Rules.{get_or_read}
 use Rattle.slips.specs.Slips.{line_of}
 use Rattle.hand.specs.Hands.{blank}

@@ -1,6 +1,6 @@
-use Rattle.std.proofs.Common.{◌≡◌, vec_items, sym, ap, ◌∙◌, rules}
+use Rattle.std.proofs.Common.{vec_items}
 use borrow.Author.Rules.{get_or_read}
-use Rattle.hand.specs.Hands.{blank, slips_of}
+use Rattle.hand.specs.Hands.{blank}
 use Rattle.hand.proofs.Picks.{absent_unpicked, found_picked}
 use Rattle.hand.proofs.held.Hand.take_out.Goals as goal
 

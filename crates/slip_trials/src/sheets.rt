@@ -2,16 +2,9 @@
 
 use ata::Drive;
 use plain::PlainDisk;
-use plain::PlainDrive;
-use sense::Refusal;
-use sense::RefusalPartialEq;
-use std::test::*;
-use unit::HandedBack;
-use unit::Line;
-use unit::Reply;
-use unit::RunSheet;
-use unit::Slip;
-use unit::Unit;
+use slips::{HandedBack, Line, Reply, RunSheet, SheetRefusal, Slip, Unit};
+use std::process::Abort;
+use std::test::Fail;
 
 /// How many slips were handed out, how many were entered, and whether each refusal was for a full sheet, with its own slip.
 #[derive(Clone, Copy, PartialEq, Eq, Debug)]
@@ -27,7 +20,7 @@ fn enter_or_give_up(slip: Slip, sheet: &mut RunSheet<'_>, filled: &mut Filled) {
     match sheet.enter(slip) {
         Ok(()) => filled.entered = filled.entered.saturating_add(1),
         Err(HandedBack { refusal, slip }) => {
-            let whole = refusal == Refusal::SheetFull && slip.number() == number;
+            let whole = refusal == SheetRefusal::SheetFull && slip.number() == number;
             filled.handed_back_whole = filled.handed_back_whole && whole;
             sheet.give_up(slip);
         }
@@ -53,7 +46,7 @@ fn fill<D: Drive>(unit: &mut Unit<D>, sheet: &mut RunSheet<'_>, commands: u64) -
 }
 
 // A sheet of so many places, of which two slips too many are entered.
-fn overfill(rt: &LibcRuntime, places: usize) -> Result<(), Fail> {
+fn overfill(rt: &(impl Abort + AllocGlobal), places: usize) -> Result<(), Fail> {
     let mut lines = vec![in rt.alloc(); Line::BLANK; places]?;
     let mut sheet = RunSheet::new(lines.as_mut_slice());
     let mut unit = Unit::attach(PlainDisk::new(vec![in rt.alloc(); 0u8; 513]?));
@@ -61,31 +54,32 @@ fn overfill(rt: &LibcRuntime, places: usize) -> Result<(), Fail> {
     let full = sheet.is_full();
     let more = fill(&mut unit, &mut sheet, 2);
     let _ = unit.detach();
-    check_eq(first.entered, places as u64)?;
-    check(full)?;
-    check_eq(more.handed_out, 2)?;
-    check_eq(more.entered, 0)?;
-    check(more.handed_back_whole)?;
-    check(sheet.len() == places)?;
-    check_eq(sheet.given_up(), 2)?;
+    assert_eq!(rt; first.entered, places as u64);
+    assert!(rt; full);
+    assert_eq!(rt; more.handed_out, 2);
+    assert_eq!(rt; more.entered, 0);
+    assert!(rt; more.handed_back_whole);
+    assert!(rt; sheet.len() == places);
+    assert_eq!(rt; sheet.given_up(), 2);
     for at in 0..places {
         let line = sheet.line(at).ok_or("no line")?;
-        check_eq(line.number, at as u64 + 1)?;
+        assert_eq!(rt; line.number, at as u64 + 1);
     }
-    check(sheet.line(places).is_none())
+    assert!(rt; sheet.line(places).is_none());
+    Ok(())
 }
 
 #[test]
-fn no_places(rt: LibcRuntime) -> Result<(), Fail> {
+fn no_places(rt: HostRuntime) -> Result<(), Fail> {
     overfill(&rt, 0)
 }
 
 #[test]
-fn one_place(rt: LibcRuntime) -> Result<(), Fail> {
+fn one_place(rt: HostRuntime) -> Result<(), Fail> {
     overfill(&rt, 1)
 }
 
 #[test]
-fn four_places(rt: LibcRuntime) -> Result<(), Fail> {
+fn four_places(rt: HostRuntime) -> Result<(), Fail> {
     overfill(&rt, 4)
 }

@@ -1,0 +1,6 @@
+//! Tests of slips and run sheets on examples.
+
+#![tactic(auto)]
+
+#[cfg(test)]
+mod sheets;
