@@ -2,7 +2,7 @@
 
 ghost use Rattle.ata.specs.Exchange.{Agrees};
 ghost use Rattle.caching.specs.Meaning.{state_of, claims_of, image_of};
-ghost use Rattle.std.proofs.Common.{sym, ◌∙◌, ap, arith, rules};
+ghost use Rattle.std.proofs.Common.{sym, ◌∙◌, ap, arith};
 ghost use Rattle.ata.specs.Words.{count_limit};
 ghost use Rattle.disk.proofs.Decoded.{words_long, wide_for, cached_for, cache_off_for, blocks_for};
 ghost use Rattle.disk.proofs.Images.{length_contents, contents_sectors};

@@ -3,7 +3,7 @@
 ghost use Rattle.ata.specs.Exchange.{Agrees};
 ghost use Rattle.plain.specs.Meaning.{state_of, claims_of, image_of};
 ghost use Rattle.std.specs.Prelude.{◌≡◌, ℕ, refl};
-ghost use Rattle.std.proofs.Common.{sym, ◌∙◌, ap, arith, rules};
+ghost use Rattle.std.proofs.Common.{sym, ◌∙◌, ap, arith};
 ghost use Rattle.ata.specs.Words.{count_limit};
 ghost use Rattle.disk.proofs.Decoded.{words_long, wide_for, through_for, cache_off_for, blocks_for};
 ghost use Rattle.disk.proofs.Images.{length_contents, contents_sectors};

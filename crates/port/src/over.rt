@@ -4,7 +4,7 @@ ghost use Rattle.std.specs.Prelude.{◌≡◌, ◌<◌, ◌≤◌, ◌&&◌, nat
 ghost use Rattle.ata.specs.Commands.{named};
 ghost use Rattle.ata.specs.Exchange.{Agrees};
 ghost use Rattle.port.specs.Limits.{limited, brought_in, names};
-ghost use Rattle.std.proofs.Common.{rules, arith};
+ghost use Rattle.std.proofs.Common.{rules};
 
 use crate::limit::Port;
 use ata::{Answer, AtaCommand, Drive, TaskFile};
