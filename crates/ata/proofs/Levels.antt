@@ -1,8 +1,8 @@
 -- Where faces are on their medium: with the cache off, without power, after a flush, after a write through the cache.
-use Rattle.std.proofs.Common.{◌≡◌, ℕ, zero, suc, ◌+◌, ◌<◌, ◌≤◌, Bool, true, false, cond, ◌⊎◌, List, [], ◌∷◌, length, get_or, set, Some, None, Option, sym, refl, ap, ◌∙◌, inl, inr, arith, length-set, get_or-set_other, get_or-set_same}
+use Rattle.std.proofs.Common.{◌≡◌, ℕ, zero, suc, ◌+◌, ◌<◌, ◌≤◌, Bool, true, false, cond, ◌⊎◌, List, [], ◌∷◌, length, get_or, set, Some, None, Option, sym, refl, ap, ◌∙◌, inl, inr, arith, length-set, get_or-set_other, get_or-set_same, Ok, Err}
 use Rattle.std.proofs.lemmas.Bool.Decides.{eqb_tells}
-use Rattle.ata.specs.declared.answer.End.{End}
-use Rattle.ata.specs.declared.answer.End.TheVariants.{Done, Stopped, Cut}
+use Rattle.ata.specs.Machine.{End}
+use Rattle.ata.specs.declared.answer.Stop.TheVariants.{Unreadable, Cut}
 use Rattle.ata.specs.Machine.{Content, unreadable, Machine, Choice, Step, read_step, verify_step, write_step, flush_step, cache_step, idle_step, Oracle, Outcome, settle, settled, look, sinks, caches, act, powered, step, next, steps}
 use Rattle.ata.specs.Commands.{writes}
 use Rattle.ata.specs.Laws.{Level, StaysLevel, FlushSettles, Settled, ThroughSettles}
@@ -72,10 +72,10 @@ step_level c x m lit h = by m.left
     by (Some zero) = record { even = refl; off = λ _. refl; dark = λ _. refl }
     by (Some (suc n)) = act_level x (Some n) (settled c m) lit (settled_level c m h)
 
-step_lit : (c : Choice) (x : Step) (m : Machine) → (step c x m).end ≡ Done → m.lit ≡ true → (step c x m).machine.lit ≡ true
+step_lit : (c : Choice) (x : Step) (m : Machine) → (step c x m).end ≡ Ok tt → m.lit ≡ true → (step c x m).machine.lit ≡ true
 step_lit c x m e lit = by m.left e
   where
-    by : (l : Option ℕ) → (powered l x (settled c m)).end ≡ Done → (powered l x (settled c m)).machine.lit ≡ true
+    by : (l : Option ℕ) → (powered l x (settled c m)).end ≡ Ok tt → (powered l x (settled c m)).machine.lit ≡ true
     by None e = lit
     by (Some zero) e = absurd (let z : ◌≡◌ {A = ℕ} 0 1 = cc in omega arith)
     by (Some (suc n)) e = lit
@@ -85,24 +85,24 @@ steps_level o [] m lit h = h
 steps_level o (x ∷ xs) m lit h =
     by (step (o 0) x m).end (step (o 0) x m).given (step (o 0) x m).machine (λ e. step_lit (o 0) x m e lit) (step_level (o 0) x m lit h) (λ n. steps_level (λ k. o (suc k)) xs n)
   where
-    by : (e : End) (g : List ℕ) (n : Machine) → (e ≡ Done → n.lit ≡ true) → Level n → ((n : Machine) → n.lit ≡ true → Level n → Level (steps (λ k. o (suc k)) xs n).machine) → Level (next e g n (λ k. steps (λ i. o (suc i)) xs k)).machine
-    by Done g n l h more = more n (l refl) h
-    by (Stopped b) g n l h more = h
-    by Cut g n l h more = h
+    by : (e : End) (g : List ℕ) (n : Machine) → (e ≡ Ok tt → n.lit ≡ true) → Level n → ((n : Machine) → n.lit ≡ true → Level n → Level (steps (λ k. o (suc k)) xs n).machine) → Level (next e g n (λ k. steps (λ i. o (suc i)) xs k)).machine
+    by (Ok tt) g n l h more = more n (l refl) h
+    by (Err (Unreadable b)) g n l h more = h
+    by (Err Cut) g n l h more = h
 
-no_cut : {X : Type 0} → Cut ≡ Done → X
+no_cut : {X : Type 0} → ◌≡◌ {A = End} (Err Cut) (Ok tt) → X
 no_cut e = let z : ◌≡◌ {A = ℕ} 0 1 = cc in absurd (omega arith)
 
 abbrev AsOne : Outcome → Type 0
-AsOne r = r.end ≡ Done → r.machine.store.medium ≡ r.machine.store.face
+AsOne r = r.end ≡ Ok tt → r.machine.store.medium ≡ r.machine.store.face
 
 one_step : (x : Step) (o : Oracle) (m : Machine) → AsOne (step (o 0) x m) → AsOne (steps o (x ∷ []) m)
 one_step x o m h = by (step (o 0) x m).end (step (o 0) x m).given (step (o 0) x m).machine h
   where
-    by : (e : End) (g : List ℕ) (n : Machine) → (e ≡ Done → n.store.medium ≡ n.store.face) → AsOne (next e g n (λ k. steps (λ i. o (suc i)) [] k))
-    by Done g n h w = h refl
-    by (Stopped b) g n h w = h w
-    by Cut g n h w = h w
+    by : (e : End) (g : List ℕ) (n : Machine) → (e ≡ Ok tt → n.store.medium ≡ n.store.face) → AsOne (next e g n (λ k. steps (λ i. o (suc i)) [] k))
+    by (Ok tt) g n h w = h refl
+    by (Err (Unreadable b)) g n h w = h w
+    by (Err Cut) g n h w = h w
 
 settles_one : (x : Step) (c : Choice) (m : Machine) → ((on : Bool) (f d : List Content) → sinks x on f d ≡ (look x f).face) → AsOne (step c x m)
 settles_one x c m h = by m.left
@@ -128,7 +128,7 @@ abbrev Coming : ℕ → ℕ → ℕ → Machine → Type 0
 Coming k b n m = ((b ≤ k) × (k < b + n)) ⊎ Settled k m
 
 through_one : (k b n : ℕ) (c : Content) (ch : Choice) (m : Machine) → length m.store.medium ≡ length m.store.face → b < length m.store.face → Coming k b (suc n) m →
-    (step ch (write_step true b c) m).end ≡ Done → Coming k (suc b) n (step ch (write_step true b c) m).machine
+    (step ch (write_step true b c) m).end ≡ Ok tt → Coming k (suc b) n (step ch (write_step true b c) m).machine
 through_one k b n c ch m even low h e = by m.left e
   where
     f : List Content
@@ -153,13 +153,13 @@ through_one k b n c ch m even low h e = by m.left e
         later i (inl r) = let a = r.0 in let z = r.1 in inl (past k b i a, omega arith)
         later i (inr s) = inr (other i s)
 
-    by : (l : Option ℕ) → (powered l (write_step true b c) (settled ch m)).end ≡ Done → Coming k (suc b) n (powered l (write_step true b c) (settled ch m)).machine
+    by : (l : Option ℕ) → (powered l (write_step true b c) (settled ch m)).end ≡ Ok tt → Coming k (suc b) n (powered l (write_step true b c) (settled ch m)).machine
     by None e = met h
     by (Some zero) e = no_cut e
     by (Some (suc j)) e = met h
 
 through_all : (o : Oracle) (cs : List Content) (b k : ℕ) (m : Machine) → length m.store.medium ≡ length m.store.face → b + length cs ≤ length m.store.face → Coming k b (length cs) m →
-    (steps o (writes true b cs) m).end ≡ Done → Settled k (steps o (writes true b cs) m).machine
+    (steps o (writes true b cs) m).end ≡ Ok tt → Settled k (steps o (writes true b cs) m).machine
 unfolding writes
 through_all o [] b k m even low h e = elim h [ inl r ↦ (let a = r.0 in let z = r.1 in absurd (omega arith)) | inr s ↦ s ]
 through_all o (c ∷ cs) b k m even low h e =
@@ -167,23 +167,23 @@ through_all o (c ∷ cs) b k m even low h e =
     (λ i. through_one k b (length cs) c (o 0) m even (omega arith) h i) (one_long (o 0) b c m even) e
     (λ n. through_all (λ i. o (suc i)) cs (suc b) k n)
   where
-    one_long : (ch : Choice) (b : ℕ) (c : Content) (m : Machine) → length m.store.medium ≡ length m.store.face → (step ch (write_step true b c) m).end ≡ Done →
+    one_long : (ch : Choice) (b : ℕ) (c : Content) (m : Machine) → length m.store.medium ≡ length m.store.face → (step ch (write_step true b c) m).end ≡ Ok tt →
         (length (step ch (write_step true b c) m).machine.store.medium ≡ length (step ch (write_step true b c) m).machine.store.face) × (length (step ch (write_step true b c) m).machine.store.face ≡ length m.store.face)
     one_long ch b c m even e = by_left m.left e
       where
-        by_left : (l : Option ℕ) → (powered l (write_step true b c) (settled ch m)).end ≡ Done →
+        by_left : (l : Option ℕ) → (powered l (write_step true b c) (settled ch m)).end ≡ Ok tt →
             (length (powered l (write_step true b c) (settled ch m)).machine.store.medium ≡ length (powered l (write_step true b c) (settled ch m)).machine.store.face) × (length (powered l (write_step true b c) (settled ch m)).machine.store.face ≡ length m.store.face)
         by_left None e = (length-set (settled ch m).store.medium b c ∙ settle_length ch.settles 0 m.store.face m.store.medium ∙ even ∙ sym (length-set m.store.face b c), length-set m.store.face b c)
         by_left (Some zero) e = no_cut e
         by_left (Some (suc n)) e = (length-set (settled ch m).store.medium b c ∙ settle_length ch.settles 0 m.store.face m.store.medium ∙ even ∙ sym (length-set m.store.face b c), length-set m.store.face b c)
 
-    by : (x : End) (g : List ℕ) (n : Machine) → (x ≡ Done → Coming k (suc b) (length cs) n) → (x ≡ Done → (length n.store.medium ≡ length n.store.face) × (length n.store.face ≡ length m.store.face)) →
-        (next x g n (λ q. steps (λ i. o (suc i)) (writes true (suc b) cs) q)).end ≡ Done →
-        ((n : Machine) → length n.store.medium ≡ length n.store.face → suc b + length cs ≤ length n.store.face → Coming k (suc b) (length cs) n → (steps (λ i. o (suc i)) (writes true (suc b) cs) n).end ≡ Done → Settled k (steps (λ i. o (suc i)) (writes true (suc b) cs) n).machine) →
+    by : (x : End) (g : List ℕ) (n : Machine) → (x ≡ Ok tt → Coming k (suc b) (length cs) n) → (x ≡ Ok tt → (length n.store.medium ≡ length n.store.face) × (length n.store.face ≡ length m.store.face)) →
+        (next x g n (λ q. steps (λ i. o (suc i)) (writes true (suc b) cs) q)).end ≡ Ok tt →
+        ((n : Machine) → length n.store.medium ≡ length n.store.face → suc b + length cs ≤ length n.store.face → Coming k (suc b) (length cs) n → (steps (λ i. o (suc i)) (writes true (suc b) cs) n).end ≡ Ok tt → Settled k (steps (λ i. o (suc i)) (writes true (suc b) cs) n).machine) →
         Settled k (next x g n (λ q. steps (λ i. o (suc i)) (writes true (suc b) cs) q)).machine
-    by Done g n c l e more = let a = (l refl).1 in more n (l refl).0 (omega arith) (c refl) e
-    by (Stopped z) g n c l e more = absurd (let y : ◌≡◌ {A = ℕ} 0 1 = cc in omega arith)
-    by Cut g n c l e more = no_cut e
+    by (Ok tt) g n c l e more = let a = (l refl).1 in more n (l refl).0 (omega arith) (c refl) e
+    by (Err (Unreadable z)) g n c l e more = absurd (let y : ◌≡◌ {A = ℕ} 0 1 = cc in omega arith)
+    by (Err Cut) g n c l e more = no_cut e
 
 pub through_settles : ThroughSettles
 through_settles o cs b k m even low first last e = through_all o cs b k m even low (inl (first, last)) e

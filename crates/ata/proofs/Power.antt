@@ -1,7 +1,7 @@
 -- Steps show what the faces alone decide, or lose their power; the drive's choices do not show.
-use Rattle.std.proofs.Common.{◌≡◌, ℕ, zero, suc, false, ◌⊎◌, List, [], ◌∷◌, ◌++◌, Some, None, Option, refl, ap, ◌∙◌, subst, inl, inr, ⊎_elim, arith}
-use Rattle.ata.specs.declared.answer.End.{End}
-use Rattle.ata.specs.declared.answer.End.TheVariants.{Done, Stopped, Cut}
+use Rattle.std.proofs.Common.{◌≡◌, ℕ, zero, suc, false, ◌⊎◌, List, [], ◌∷◌, ◌++◌, Some, None, Option, refl, ap, ◌∙◌, subst, inl, inr, ⊎_elim, arith, Ok, Err}
+use Rattle.ata.specs.Machine.{End}
+use Rattle.ata.specs.declared.answer.Stop.TheVariants.{Unreadable, Cut}
 use Rattle.ata.specs.Machine.{Machine, Step, Choice, Oracle, Outcome, Look, look, scored, settled, powered, step, next, steps, ends}
 use Rattle.ata.specs.Shows.{next_look, looks}
 
@@ -18,7 +18,7 @@ pub record Live (m : Machine) (l : Look) (r : Outcome) : Type 0 where
   pub errors : r.machine.errors ≡ scored r.end m.errors
 
 pub record Dead (m : Machine) (r : Outcome) : Type 0 where
-  pub end : r.end ≡ Cut
+  pub end : r.end ≡ Err Cut
   pub lit : r.machine.lit ≡ false
   pub level : r.machine.store.medium ≡ r.machine.store.face
   pub left : m.left ≡ None → ⊥
@@ -42,7 +42,7 @@ went o (x ∷ xs) m = ⊎_elim (alive (λ n. went (λ k. o (suc k)) xs n)) dies 
     rest : Machine → Outcome
     rest n = steps (λ k. o (suc k)) xs n
 
-    later : (g : List ℕ) (n : Machine) (l : Look) → Live m l (ends Done g n) → Live n (looks xs n.store.face) (rest n) ⊎ Dead n (rest n) → Went (next_look Done g n.store.face (λ h. looks xs h)) (next Done g n rest)
+    later : (g : List ℕ) (n : Machine) (l : Look) → Live m l (ends (Ok tt) g n) → Live n (looks xs n.store.face) (rest n) ⊎ Dead n (rest n) → Went (next_look (Ok tt) g n.store.face (λ h. looks xs h)) (next (Ok tt) g n rest)
     later g n l a (inl b) = inl (record { looked = ap (λ (k : Look). record { end = k.end; given = g ++ k.given; face = k.face }) b.looked; lit = b.lit ∙ a.lit; left = λ h. b.left (a.left h); errors = b.errors ∙ ap (λ e. scored (rest n).end e) a.errors })
     later g n l a (inr b) = inr (record { end = b.end; lit = b.lit; level = b.level; left = λ h. b.left (a.left h); errors = b.errors ∙ a.errors })
 
@@ -50,9 +50,9 @@ went o (x ∷ xs) m = ⊎_elim (alive (λ n. went (λ k. o (suc k)) xs n)) dies 
     Rest = (n : Machine) → Live n (looks xs n.store.face) (rest n) ⊎ Dead n (rest n)
 
     by : Rest → (e : End) (g : List ℕ) (n : Machine) → Live m (record { end = e; given = g; face = n.store.face }) (ends e g n) → Went (next_look e g n.store.face (λ h. looks xs h)) (next e g n rest)
-    by ih Done g n l = later g n _ l (ih n)
-    by ih (Stopped b) g n l = inl l
-    by ih Cut g n l = inl l
+    by ih (Ok tt) g n l = later g n _ l (ih n)
+    by ih (Err (Unreadable b)) g n l = inl l
+    by ih (Err Cut) g n l = inl l
 
     alive : Rest → Live m (look x m.store.face) (step (o 0) x m) → Went (looks (x ∷ xs) m.store.face) (steps o (x ∷ xs) m)
     alive ih l =
@@ -60,10 +60,10 @@ went o (x ∷ xs) m = ⊎_elim (alive (λ n. went (λ k. o (suc k)) xs n)) dies 
         subst (λ (k : Look). Went (next_look k.end k.given k.face (λ h. looks xs h)) (steps o (x ∷ xs) m)) l.looked
         (by ih r.end r.given r.machine (record { looked = refl; lit = l.lit; left = l.left; errors = l.errors }))
 
-    gone : (e : End) (g : List ℕ) (n : Machine) → e ≡ Cut → Dead m (ends e g n) → Went (looks (x ∷ xs) m.store.face) (next e g n rest)
-    gone Done g n e d = absurd (let z : ◌≡◌ {A = ℕ} 0 1 = cc in omega arith)
-    gone (Stopped b) g n e d = inr d
-    gone Cut g n e d = inr d
+    gone : (e : End) (g : List ℕ) (n : Machine) → e ≡ Err Cut → Dead m (ends e g n) → Went (looks (x ∷ xs) m.store.face) (next e g n rest)
+    gone (Ok tt) g n e d = absurd (let z : ◌≡◌ {A = ℕ} 0 1 = cc in omega arith)
+    gone (Err (Unreadable b)) g n e d = inr d
+    gone (Err Cut) g n e d = inr d
 
     dies : Dead m (step (o 0) x m) → Went (looks (x ∷ xs) m.store.face) (steps o (x ∷ xs) m)
     dies d = gone (step (o 0) x m).end (step (o 0) x m).given (step (o 0) x m).machine d.end d

@@ -1,8 +1,8 @@
 -- Transfers of a range of blocks: cut in two, and what they give and show.
-use Rattle.std.proofs.Common.{◌≡◌, ℕ, zero, suc, ◌+◌, ◌-◌, ◌*◌, ◌<◌, ◌≤◌, Bool, List, [], ◌∷◌, ◌++◌, length, get_or, drop, Some, None, Option, sym, refl, ap, ◌∙◌, add-zero, zero-add, arith}
+use Rattle.std.proofs.Common.{◌≡◌, ℕ, zero, suc, ◌+◌, ◌-◌, ◌*◌, ◌<◌, ◌≤◌, Bool, List, [], ◌∷◌, ◌++◌, length, get_or, drop, Some, None, Option, sym, refl, ap, ◌∙◌, add-zero, zero-add, arith, Ok, Err}
 use Rattle.std.proofs.lemmas.List.{length-append}
-use Rattle.ata.specs.declared.answer.End.{End}
-use Rattle.ata.specs.declared.answer.End.TheVariants.{Done, Stopped, Cut}
+use Rattle.ata.specs.Machine.{End}
+use Rattle.ata.specs.declared.answer.Stop.TheVariants.{Unreadable, Cut}
 use Rattle.ata.specs.Machine.{Content, unreadable, bytes, Machine, Step, read_step, write_step, Choice, Oracle, look, end_of_read, bytes_of_read, settled, powered, step, steps, next}
 use Rattle.ata.specs.Commands.{reads, writes, blocks, Sector}
 
@@ -42,25 +42,25 @@ Sectors f = (k : ℕ) → Sector (get_or f k unreadable)
 -- What is known of a read of n blocks from b on.
 pub record Read (b n : ℕ) (m : Machine) (e : End) (g : List ℕ) (m' : Machine) : Type 0 where
   pub few : length g ≤ 512 * n
-  pub all : e ≡ Done → length g ≡ 512 * n
-  pub first : (x : ℕ) → e ≡ Stopped x → b ≤ x
-  pub last : (x : ℕ) → e ≡ Stopped x → x < b + n
-  pub before : (x : ℕ) → e ≡ Stopped x → length g ≡ 512 * (x - b)
-  pub faces : e ≡ Done → m'.store.face ≡ m.store.face
+  pub all : e ≡ Ok tt → length g ≡ 512 * n
+  pub first : (x : ℕ) → e ≡ Err (Unreadable x) → b ≤ x
+  pub last : (x : ℕ) → e ≡ Err (Unreadable x) → x < b + n
+  pub before : (x : ℕ) → e ≡ Err (Unreadable x) → length g ≡ 512 * (x - b)
+  pub faces : e ≡ Ok tt → m'.store.face ≡ m.store.face
 
-pub no_stop : {X : Type 0} {b : ℕ} → Stopped b ≡ Done → X
+pub no_stop : {X : Type 0} {b : ℕ} → ◌≡◌ {A = End} (Err (Unreadable b)) (Ok tt) → X
 no_stop e = let z : ◌≡◌ {A = ℕ} 0 1 = cc in absurd (omega arith)
 
-pub no_cut : {X : Type 0} → Cut ≡ Done → X
+pub no_cut : {X : Type 0} → ◌≡◌ {A = End} (Err Cut) (Ok tt) → X
 no_cut e = let z : ◌≡◌ {A = ℕ} 0 1 = cc in absurd (omega arith)
 
-done_stop : {X : Type 0} (x : ℕ) → Done ≡ Stopped x → X
+done_stop : {X : Type 0} (x : ℕ) → ◌≡◌ {A = End} (Ok tt) (Err (Unreadable x)) → X
 done_stop x e = let z : ◌≡◌ {A = ℕ} 0 1 = cc in absurd (omega arith)
 
-cut_stop : {X : Type 0} (x : ℕ) → Cut ≡ Stopped x → X
+cut_stop : {X : Type 0} (x : ℕ) → ◌≡◌ {A = End} (Err Cut) (Err (Unreadable x)) → X
 cut_stop x e = let z : ◌≡◌ {A = ℕ} 0 1 = cc in absurd (omega arith)
 
-stop_is : (b x : ℕ) → Stopped b ≡ Stopped x → b ≡ x
+stop_is : (b x : ℕ) → ◌≡◌ {A = End} (Err (Unreadable b)) (Err (Unreadable x)) → b ≡ x
 stop_is b x e = cc
 
 read_one : (c : Content) (b : ℕ) (m n : Machine) → Sector c → n.store.face ≡ m.store.face → Read b 1 m (end_of_read c b) (bytes_of_read c) n
@@ -95,7 +95,7 @@ reads_read (suc n) b o m s =
     by : (e : End) (g : List ℕ) (k : Machine) → Read b 1 m e g k →
         ((k : Machine) → Sectors k.store.face → Read (suc b) n k (steps (λ i. o (suc i)) (reads (suc b) n) k).end (steps (λ i. o (suc i)) (reads (suc b) n) k).given (steps (λ i. o (suc i)) (reads (suc b) n) k).machine) →
         Read b (suc n) m (next e g k (λ q. steps (λ i. o (suc i)) (reads (suc b) n) q)).end (next e g k (λ q. steps (λ i. o (suc i)) (reads (suc b) n) q)).given (next e g k (λ q. steps (λ i. o (suc i)) (reads (suc b) n) q)).machine
-    by Done g k one more =
+    by (Ok tt) g k one more =
         let f : k.store.face ≡ m.store.face = one.faces refl in
         let r = more k (λ j. rw f (s j)) in
         let a : length g ≡ 512 * 1 = one.all refl in
@@ -110,7 +110,7 @@ reads_read (suc n) b o m s =
           before = λ x e. (let y = r.before x e in let z = r.first x e in omega arith);
           faces = λ x. r.faces x ∙ f;
         }
-    by (Stopped z) g k one more =
+    by (Err (Unreadable z)) g k one more =
         let w = one.few in
         record {
           few = omega arith;
@@ -120,23 +120,23 @@ reads_read (suc n) b o m s =
           before = one.before;
           faces = no_stop;
         }
-    by Cut g k one more =
+    by (Err Cut) g k one more =
         let w = one.few in
         record { few = omega arith; all = no_cut; first = λ x e. cut_stop x e; last = λ x e. cut_stop x e; before = λ x e. cut_stop x e; faces = no_cut }
 
 -- Steps that show no bytes and meet no unreadable block.
 abbrev pub Silent : List Step → Type 0
 Silent [] = Unit {0}
-Silent (x ∷ xs) = ((f : List Content) → ((look x f).end ≡ Done) × ((look x f).given ≡ [])) × Silent xs
+Silent (x ∷ xs) = ((f : List Content) → ((look x f).end ≡ Ok tt) × ((look x f).given ≡ [])) × Silent xs
 
 pub record GivesNothing (e : End) (g : List ℕ) : Type 0 where
   pub none : g ≡ []
-  pub never : (x : ℕ) → e ≡ Stopped x → ⊥
+  pub never : (x : ℕ) → e ≡ Err (Unreadable x) → ⊥
 
-silent_one : (c : Choice) (x : Step) (m : Machine) → ((f : List Content) → ((look x f).end ≡ Done) × ((look x f).given ≡ [])) → GivesNothing (step c x m).end (step c x m).given
+silent_one : (c : Choice) (x : Step) (m : Machine) → ((f : List Content) → ((look x f).end ≡ Ok tt) × ((look x f).given ≡ [])) → GivesNothing (step c x m).end (step c x m).given
 silent_one c x m h = by m.left
   where
-    looked : (f : List Content) (k : ℕ) → (look x f).end ≡ Stopped k → ⊥
+    looked : (f : List Content) (k : ℕ) → (look x f).end ≡ Err (Unreadable k) → ⊥
     looked f k e = done_stop k (sym (h f).0 ∙ e)
 
     by : (l : Option ℕ) → GivesNothing (powered l x (settled c m)).end (powered l x (settled c m)).given
@@ -151,9 +151,9 @@ silent_steps (x ∷ xs) o m h =
   where
     by : (e : End) (g : List ℕ) (n : Machine) → GivesNothing e g → ((n : Machine) → GivesNothing (steps (λ i. o (suc i)) xs n).end (steps (λ i. o (suc i)) xs n).given) →
         GivesNothing (next e g n (λ k. steps (λ i. o (suc i)) xs k)).end (next e g n (λ k. steps (λ i. o (suc i)) xs k)).given
-    by Done g n one more = record { none = ap (λ (z : List ℕ). z ++ (steps (λ i. o (suc i)) xs n).given) one.none ∙ (more n).none; never = (more n).never }
-    by (Stopped b) g n one more = one
-    by Cut g n one more = one
+    by (Ok tt) g n one more = record { none = ap (λ (z : List ℕ). z ++ (steps (λ i. o (suc i)) xs n).given) one.none ∙ (more n).none; never = (more n).never }
+    by (Err (Unreadable b)) g n one more = one
+    by (Err Cut) g n one more = one
 
 pub silent_writes : (t : Bool) (b : ℕ) (cs : List Content) → Silent (writes t b cs)
 unfolding writes

@@ -1,9 +1,9 @@
 -- What reads and writes show, in the words of blocks.
-use Rattle.std.proofs.Common.{◌≡◌, ℕ, zero, suc, ◌+◌, ◌<◌, ◌≤◌, Bool, true, cond, ltb, List, [], ◌∷◌, ◌++◌, length, get_or, take, drop, set, sym, refl, ap, ◌∙◌, append_assoc, add-zero, arith, drop-cons, take-suc-set, drop-set-lt}
+use Rattle.std.proofs.Common.{◌≡◌, ℕ, zero, suc, ◌+◌, ◌<◌, ◌≤◌, Bool, true, cond, ltb, List, [], ◌∷◌, ◌++◌, length, get_or, take, drop, set, sym, refl, ap, ◌∙◌, append_assoc, add-zero, arith, drop-cons, take-suc-set, drop-set-lt, Ok, Err}
 use Rattle.std.proofs.lemmas.List.{take-append-drop, length-set}
 use Rattle.std.proofs.lemmas.Bool.Decides.{nat_tests}
-use Rattle.ata.specs.declared.answer.End.{End}
-use Rattle.ata.specs.declared.answer.End.TheVariants.{Done, Stopped, Cut}
+use Rattle.ata.specs.Machine.{End}
+use Rattle.ata.specs.declared.answer.Stop.TheVariants.{Unreadable, Cut}
 use Rattle.ata.specs.Machine.{Content, unreadable, bytes, Step, read_step, verify_step, write_step, flush_step, cache_step, idle_step, Look, look, shown, end_of_read, bytes_of_read}
 use Rattle.ata.specs.Commands.{reads, writes}
 use Rattle.ata.specs.Shows.{next_look, looks, range, readable, content, written, read_end, read_shows, write_shows}
@@ -15,7 +15,7 @@ end_more : (b n k : ℕ) → read_end (suc b) n k ≡ read_end b (suc n) (suc k)
 end_more b n k =
     let e : ltb (suc k) (suc n) ≡ ltb k n = grind (arith, nat_tests) in
     let i : suc b + k ≡ b + suc k = omega arith in
-    ap (λ (z : ℕ). cond (ltb k n) (Stopped z) Done) i ∙ ap (λ (v : Bool). cond v (Stopped (b + suc k)) Done) (sym e)
+    ap (λ (z : ℕ). cond (ltb k n) (Err (Unreadable z)) (Ok tt)) i ∙ ap (λ (v : Bool). cond v (Err (Unreadable (b + suc k))) (Ok tt)) (sym e)
 
 -- one block, and then the rest
 abbrev after_one : ℕ → ℕ → List Content → Content → Look
@@ -30,7 +30,7 @@ one_more b n f (bytes xs) = ap (λ (e : End). record { end = e; given = xs ++ co
 one_more b n f unreadable =
     let e : ltb 0 (suc n) ≡ true = grind (arith, nat_tests) in
     let i : b + 0 ≡ b = omega arith in
-    ap (λ (z : ℕ). record { end = Stopped z; given = []; face = f }) (sym i) ∙ ap (λ (v : Bool). record { end = cond v (Stopped (b + 0)) Done; given = []; face = f }) (sym e)
+    ap (λ (z : ℕ). record { end = Err (Unreadable z); given = []; face = f }) (sym i) ∙ ap (λ (v : Bool). record { end = cond v (Err (Unreadable (b + 0))) (Ok tt); given = []; face = f }) (sym e)
 
 pub looks_reads : (n b : ℕ) (f : List Content) → b + n ≤ length f → looks (reads b n) f ≡ read_shows b n f
 unfolding reads readable content
@@ -41,9 +41,9 @@ looks_reads (suc n) b f h =
     ∙ ap (at_once b (suc n) f) (sym (range_more b n f (omega arith)))
   where
     by : (e : End) (g : List ℕ) → looks (reads (suc b) n) f ≡ read_shows (suc b) n f → next_look e g f (λ k. looks (reads (suc b) n) k) ≡ next_look e g f (λ k. read_shows (suc b) n k)
-    by Done g more = ap (λ (k : Look). record { end = k.end; given = g ++ k.given; face = k.face }) more
-    by (Stopped x) g more = refl
-    by Cut g more = refl
+    by (Ok tt) g more = ap (λ (k : Look). record { end = k.end; given = g ++ k.given; face = k.face }) more
+    by (Err (Unreadable x)) g more = refl
+    by (Err Cut) g more = refl
 
 written_more : (b : ℕ) (c : Content) (cs f : List Content) → b < length f → written (suc b) cs (set f b c) ≡ written b (c ∷ cs) f
 written_more b c cs f h =
@@ -64,31 +64,31 @@ pub looks_join : (xs ys : List Step) (f : List Content) → looks (xs ++ ys) f �
 looks_join [] ys f = refl
 looks_join (x ∷ xs) ys f = by (look x f).end (look x f).given (look x f).face (λ h. looks_join xs ys h)
   where
-    add : (e : End) (g k : List ℕ) (h : List Content) → next_look Done g h (λ z. next_look e k z (λ q. looks ys q)) ≡ next_look e (g ++ k) h (λ q. looks ys q)
-    add Done g k h = ap (λ (z : List ℕ). record { end = (looks ys h).end; given = z; face = (looks ys h).face }) (sym (append_assoc g k (looks ys h).given))
-    add (Stopped b) g k h = refl
-    add Cut g k h = refl
+    add : (e : End) (g k : List ℕ) (h : List Content) → next_look (Ok tt) g h (λ z. next_look e k z (λ q. looks ys q)) ≡ next_look e (g ++ k) h (λ q. looks ys q)
+    add (Ok tt) g k h = ap (λ (z : List ℕ). record { end = (looks ys h).end; given = z; face = (looks ys h).face }) (sym (append_assoc g k (looks ys h).given))
+    add (Err (Unreadable b)) g k h = refl
+    add (Err Cut) g k h = refl
 
     by : (e : End) (g : List ℕ) (h : List Content) → ((h : List Content) → looks (xs ++ ys) h ≡ next_look (looks xs h).end (looks xs h).given (looks xs h).face (λ q. looks ys q)) →
         next_look e g h (λ k. looks (xs ++ ys) k) ≡ next_look (next_look e g h (λ k. looks xs k)).end (next_look e g h (λ k. looks xs k)).given (next_look e g h (λ k. looks xs k)).face (λ q. looks ys q)
-    by Done g h more =
+    by (Ok tt) g h more =
         ap (λ (k : Look). record { end = k.end; given = g ++ k.given; face = k.face }) (more h) ∙ add (looks xs h).end g (looks xs h).given (looks xs h).face
-    by (Stopped b) g h more = refl
-    by Cut g h more = refl
+    by (Err (Unreadable b)) g h more = refl
+    by (Err Cut) g h more = refl
 
 -- what is shown is never without power
-pub never_cut : (xs : List Step) (f : List Content) → (looks xs f).end ≡ Cut → ⊥
+pub never_cut : (xs : List Step) (f : List Content) → (looks xs f).end ≡ Err Cut → ⊥
 never_cut [] f e = let z : ◌≡◌ {A = ℕ} 0 1 = cc in omega arith
 never_cut (x ∷ xs) f e = by (look x f).end (look x f).given (look x f).face (λ h. one x f h) e (λ h. never_cut xs h)
   where
-    read_lit : (c : Content) (b : ℕ) → end_of_read c b ≡ Cut → ⊥
+    read_lit : (c : Content) (b : ℕ) → end_of_read c b ≡ Err Cut → ⊥
     read_lit (bytes ys) b e = let z : ◌≡◌ {A = ℕ} 0 1 = cc in omega arith
     read_lit unreadable b e = let z : ◌≡◌ {A = ℕ} 0 1 = cc in omega arith
 
-    done_lit : Done ≡ Cut → ⊥
+    done_lit : ◌≡◌ {A = End} (Ok tt) (Err Cut) → ⊥
     done_lit e = let z : ◌≡◌ {A = ℕ} 0 1 = cc in omega arith
 
-    one : (x : Step) (f : List Content) → (look x f).end ≡ Cut → ⊥
+    one : (x : Step) (f : List Content) → (look x f).end ≡ Err Cut → ⊥
     one (read_step b) f e = read_lit (get_or f b unreadable) b e
     one (verify_step b) f e = read_lit (get_or f b unreadable) b e
     one (write_step t b c) f e = done_lit e
@@ -96,7 +96,7 @@ never_cut (x ∷ xs) f e = by (look x f).end (look x f).given (look x f).face (�
     one (cache_step on) f e = done_lit e
     one idle_step f e = done_lit e
 
-    by : (e : End) (g : List ℕ) (h : List Content) → (e ≡ Cut → ⊥) → (next_look e g h (λ k. looks xs k)).end ≡ Cut → ((h : List Content) → (looks xs h).end ≡ Cut → ⊥) → ⊥
-    by Done g h n w more = more h w
-    by (Stopped b) g h n w more = n w
-    by Cut g h n w more = n refl
+    by : (e : End) (g : List ℕ) (h : List Content) → (e ≡ Err Cut → ⊥) → (next_look e g h (λ k. looks xs k)).end ≡ Err Cut → ((h : List Content) → (looks xs h).end ≡ Err Cut → ⊥) → ⊥
+    by (Ok tt) g h n w more = more h w
+    by (Err (Unreadable b)) g h n w more = n w
+    by (Err Cut) g h n w more = n refl

@@ -1,7 +1,7 @@
 -- What a drive is to whoever commands it, and what each command does to it.
-use Rattle.std.specs.Prelude.{◌≡◌, ℕ, zero, suc, ◌+◌, ◌*◌, ◌^◌, ◌<◌, ◌≤◌, min, Bool, true, false, cond, ◌||◌, List, [], ◌∷◌, ◌++◌, length, take, drop, Some, None, bit_and, nat_lt, slice_index_or}
-use Rattle.ata.specs.declared.answer.End.{End}
-use Rattle.ata.specs.declared.answer.End.TheVariants.{Done, Stopped, Cut}
+use Rattle.std.specs.Prelude.{◌≡◌, ℕ, zero, suc, ◌+◌, ◌*◌, ◌^◌, ◌<◌, ◌≤◌, min, Bool, true, false, cond, ◌||◌, List, [], ◌∷◌, ◌++◌, length, take, drop, Some, None, bit_and, nat_lt, slice_index_or, Ok, Err}
+use Rattle.ata.specs.Machine.{End}
+use Rattle.ata.specs.declared.answer.Stop.TheVariants.{Unreadable, Cut}
 use Rattle.ata.specs.declared.answer.Answer.{Answer}
 use Rattle.ata.specs.declared.task.TaskFile.{TaskFile}
 use Rattle.ata.specs.declared.task.AtaCommand.{AtaCommand}
@@ -61,9 +61,9 @@ abbrev pub no_answer : Answer
 no_answer = says 0 0 0
 
 abbrev pub answered : End → Answer
-answered Done = success
-answered (Stopped b) = says 65 64 b
-answered Cut = no_answer
+answered (Ok tt) = success
+answered (Err (Unreadable b)) = says 65 64 b
+answered (Err Cut) = no_answer
 
 -- What goes with a task file: nothing, data to the drive, or a buffer for data, or for words, from it.
 pub data Load : Type 0 where
@@ -180,9 +180,9 @@ moves s b n short buffer run =
 
 -- IDENTIFY DEVICE needs room for 256 words, and leaves it alone where power fails.
 abbrev pub told : End → List ℕ → List ℕ → List ℕ
-told Done ws buffer = over ws buffer
-told (Stopped b) ws buffer = buffer
-told Cut ws buffer = buffer
+told (Ok tt) ws buffer = over ws buffer
+told (Err (Unreadable b)) ws buffer = buffer
+told (Err Cut) ws buffer = buffer
 
 abbrev pub tells : State → List ℕ → Outcome → Gave
 tells s buffer r =

@@ -1,6 +1,5 @@
 -- What holds of every drive, whatever it does with its freedom.
-use Rattle.std.specs.Prelude.{◌≡◌, ℕ, ◌+◌, ◌<◌, ◌≤◌, true, false, List, [], ◌∷◌, ◌++◌, length, None, slice_index_or}
-use Rattle.ata.specs.declared.answer.End.TheVariants.{Done}
+use Rattle.std.specs.Prelude.{◌≡◌, ℕ, ◌+◌, ◌<◌, ◌≤◌, true, false, List, [], ◌∷◌, ◌++◌, length, None, slice_index_or, Ok}
 use Rattle.ata.specs.Machine.{Content, unreadable, Machine, Step, flush_step, cache_step, Oracle, Outcome, Look, steps, next}
 use Rattle.ata.specs.Commands.{writes}
 
@@ -17,8 +16,8 @@ StaysLevel = (o : Oracle) (xs : List Step) (m : Machine) → m.lit ≡ true → 
 abbrev pub FlushSettles : Type 0
 FlushSettles =
     (o : Oracle) (m : Machine) →
-    ((steps o (flush_step ∷ []) m).end ≡ Done → (steps o (flush_step ∷ []) m).machine.store.medium ≡ (steps o (flush_step ∷ []) m).machine.store.face)
-    × ((steps o (cache_step false ∷ []) m).end ≡ Done → (steps o (cache_step false ∷ []) m).machine.store.medium ≡ (steps o (cache_step false ∷ []) m).machine.store.face)
+    ((steps o (flush_step ∷ []) m).end ≡ Ok tt → (steps o (flush_step ∷ []) m).machine.store.medium ≡ (steps o (flush_step ∷ []) m).machine.store.face)
+    × ((steps o (cache_step false ∷ []) m).end ≡ Ok tt → (steps o (cache_step false ∷ []) m).machine.store.medium ≡ (steps o (cache_step false ∷ []) m).machine.store.face)
 
 abbrev pub Settled : ℕ → Machine → Type 0
 Settled k m = slice_index_or m.store.medium k unreadable ≡ slice_index_or m.store.face k unreadable
@@ -27,7 +26,7 @@ Settled k m = slice_index_or m.store.medium k unreadable ≡ slice_index_or m.st
 abbrev pub ThroughSettles : Type 0
 ThroughSettles =
     (o : Oracle) (cs : List Content) (b k : ℕ) (m : Machine) → length m.store.medium ≡ length m.store.face → b + length cs ≤ length m.store.face → b ≤ k → k < b + length cs →
-    (steps o (writes true b cs) m).end ≡ Done → Settled k (steps o (writes true b cs) m).machine
+    (steps o (writes true b cs) m).end ≡ Ok tt → Settled k (steps o (writes true b cs) m).machine
 
 -- what a host can see of an outcome
 abbrev pub seen : Outcome → Look

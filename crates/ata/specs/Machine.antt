@@ -1,7 +1,11 @@
 -- A drive as a machine of steps: what a step shows, what it leaves on the medium, and how power ends it.
-use Rattle.std.specs.Prelude.{ℕ, zero, suc, ◌+◌, min, Bool, false, cond, List, [], ◌∷◌, ◌++◌, Some, None, Option, slice_index_or, slice_set}
-use Rattle.ata.specs.declared.answer.End.{End}
-use Rattle.ata.specs.declared.answer.End.TheVariants.{Done, Stopped, Cut}
+use Rattle.std.specs.Prelude.{ℕ, zero, suc, ◌+◌, min, Bool, false, cond, List, [], ◌∷◌, ◌++◌, Some, None, Option, slice_index_or, slice_set, Ok, Err, Result}
+use Rattle.ata.specs.declared.answer.Stop.{Stop}
+use Rattle.ata.specs.declared.answer.Stop.TheVariants.{Unreadable, Cut}
+
+-- How a step ended: it was done, or stopped by an unreadable block or for want of power.
+abbrev pub End : Type 0
+End = Result (Unit {0}) Stop
 
 -- What a block holds: 512 bytes, or nothing that can be read.
 pub data Content : Type 0 where
@@ -45,11 +49,11 @@ pub record Look : Type 0 where
   pub face : List Content
 
 abbrev pub shown : List Content → Look
-shown f = record { end = Done; given = []; face = f }
+shown f = record { end = (Ok tt); given = []; face = f }
 
 abbrev pub end_of_read : Content → ℕ → End
-end_of_read (bytes xs) b = Done
-end_of_read unreadable b = Stopped b
+end_of_read (bytes xs) b = (Ok tt)
+end_of_read unreadable b = Err (Unreadable b)
 
 abbrev pub bytes_of_read : Content → List ℕ
 bytes_of_read (bytes xs) = xs
@@ -85,9 +89,9 @@ abbrev pub one_error_more : ℕ → ℕ
 one_error_more e = min (e + 1) 4294967295
 
 abbrev pub scored : End → ℕ → ℕ
-scored Done e = e
-scored (Stopped b) e = one_error_more e
-scored Cut e = e
+scored (Ok tt) e = e
+scored (Err (Unreadable b)) e = one_error_more e
+scored (Err Cut) e = e
 
 pub record Outcome : Type 0 where
   pub end : End
@@ -135,7 +139,7 @@ darkened m =
 -- One step's power: at 0 steps left it fails, and the step is not done.
 abbrev pub powered : Option ℕ → Step → Machine → Outcome
 powered None x m = act x None m
-powered (Some zero) x m = ends Cut [] (darkened m)
+powered (Some zero) x m = ends (Err Cut) [] (darkened m)
 powered (Some (suc n)) x m = act x (Some n) m
 
 abbrev pub step : Choice → Step → Machine → Outcome
@@ -143,21 +147,21 @@ step c x m = powered m.left x (settled c m)
 
 -- What comes after a step that ended so.
 abbrev pub next : End → List ℕ → Machine → (Machine → Outcome) → Outcome
-next Done g m rest = ends (rest m).end (g ++ (rest m).given) (rest m).machine
-next (Stopped b) g m rest = ends (Stopped b) g m
-next Cut g m rest = ends Cut g m
+next (Ok tt) g m rest = ends (rest m).end (g ++ (rest m).given) (rest m).machine
+next (Err (Unreadable b)) g m rest = ends (Err (Unreadable b)) g m
+next (Err Cut) g m rest = ends (Err Cut) g m
 
 -- Steps one after another, up to the first that is not done.
 abbrev pub steps : Oracle → List Step → Machine → Outcome
-steps o [] m = ends Done [] m
+steps o [] m = ends (Ok tt) [] m
 steps o (x ∷ xs) m =
     next (step (o 0) x m).end (step (o 0) x m).given (step (o 0) x m).machine (λ n. steps (λ k. o (suc k)) xs n)
 
 -- How many of the steps were begun.
 abbrev pub begun_after : End → ℕ → ℕ
-begun_after Done n = suc n
-begun_after (Stopped b) n = 1
-begun_after Cut n = 1
+begun_after (Ok tt) n = suc n
+begun_after (Err (Unreadable b)) n = 1
+begun_after (Err Cut) n = 1
 
 abbrev pub begun : Oracle → List Step → Machine → ℕ
 begun o [] m = 0

@@ -1,13 +1,13 @@
 -- What steps show while power lasts: the faces alone decide it, whatever the drive does with its medium.
-use Rattle.std.specs.Prelude.{ℕ, suc, ◌+◌, cond, List, [], ◌∷◌, ◌++◌, length, take, drop, nat_lt}
-use Rattle.ata.specs.declared.answer.End.{End}
-use Rattle.ata.specs.declared.answer.End.TheVariants.{Done, Stopped, Cut}
+use Rattle.std.specs.Prelude.{ℕ, suc, ◌+◌, cond, List, [], ◌∷◌, ◌++◌, length, take, drop, nat_lt, Ok, Err}
+use Rattle.ata.specs.Machine.{End}
+use Rattle.ata.specs.declared.answer.Stop.TheVariants.{Unreadable, Cut}
 use Rattle.ata.specs.Machine.{Content, unreadable, bytes, Step, Look, shown, look}
 
 abbrev pub next_look : End → List ℕ → List Content → (List Content → Look) → Look
-next_look Done g f rest = record { end = (rest f).end; given = g ++ (rest f).given; face = (rest f).face }
-next_look (Stopped b) g f rest = record { end = Stopped b; given = g; face = f }
-next_look Cut g f rest = record { end = Cut; given = g; face = f }
+next_look (Ok tt) g f rest = record { end = (rest f).end; given = g ++ (rest f).given; face = (rest f).face }
+next_look (Err (Unreadable b)) g f rest = record { end = Err (Unreadable b); given = g; face = f }
+next_look (Err Cut) g f rest = record { end = (Err Cut); given = g; face = f }
 
 abbrev pub looks : List Step → List Content → Look
 looks [] f = shown f
@@ -34,7 +34,7 @@ written b cs f = take b f ++ (cs ++ drop (b + length cs) f)
 
 -- A read gives the blocks up to the first that cannot be read, which it names.
 abbrev pub read_end : ℕ → ℕ → ℕ → End
-read_end b n k = cond (nat_lt k n) (Stopped (b + k)) Done
+read_end b n k = cond (nat_lt k n) (Err (Unreadable (b + k))) (Ok tt)
 
 abbrev pub read_shows : ℕ → ℕ → List Content → Look
 read_shows b n f =

@@ -8,10 +8,9 @@ pub struct Answer {
     pub block: u64,
 }
 
-/// How a step ended: it was done, it met an unreadable block, or its power failed.
+/// Why a step was not done: it met an unreadable block, or its power failed.
 #[derive(Clone, Copy, PartialEq, Eq, Debug)]
-pub enum End {
-    Done,
-    Stopped(u64),
+pub enum Stop {
+    Unreadable(u64),
     Cut,
 }

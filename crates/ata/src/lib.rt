@@ -7,7 +7,7 @@ mod drive;
 mod laws;
 mod task;
 
-pub use answer::{Answer, End};
+pub use answer::{Answer, Stop};
 pub use drive::Drive;
 pub use laws::{flush_settles, freedom_is_unseen, pieces_join, stays_level, through_settles};
 pub use task::{AtaCommand, Feature, TaskFile};

@@ -1,9 +1,9 @@
 -- From the steps that a command took to what it leaves of the disk.
-use Rattle.std.proofs.Common.{◌≡◌, ℕ, ◌≤◌, Bool, false, cond, ltb, List, [], ◌∷◌, ◌++◌, length, drop, sym, refl, ap, ◌∙◌, arith}
+use Rattle.std.proofs.Common.{◌≡◌, ℕ, ◌≤◌, Bool, false, cond, ltb, List, [], ◌∷◌, ◌++◌, length, drop, sym, refl, ap, ◌∙◌, arith, Ok, Err}
 use Rattle.std.proofs.lemmas.List.{length-set}
 use Rattle.std.proofs.lemmas.Bool.Decides.{nat_tests}
-use Rattle.ata.specs.declared.answer.End.{End}
-use Rattle.ata.specs.declared.answer.End.TheVariants.{Done, Stopped, Cut}
+use Rattle.ata.specs.Machine.{End}
+use Rattle.ata.specs.declared.answer.Stop.TheVariants.{Unreadable, Cut}
 use Rattle.ata.specs.Machine.{Step, idle_step, Outcome, step, steps, ends}
 use Rattle.ata.specs.Words.{showing}
 use Rattle.ata.specs.Commands.{gives, answered, ran, aborted, over, told}
@@ -60,7 +60,7 @@ words_over d e was new c b t f =
     ap (λ (z : List ℕ). z ++ drop 256 was) f ∙ (λ i. showing (c i) (words_for (claims_of (b i) (t i))) ++ drop 256 was)
     ∙ ap (λ (n : ℕ). words_of d ++ drop n was) (sym long)
 
-pub untold : (z : End) (ws was : List ℕ) → (z ≡ Done → ⊥) → was ≡ told z ws was
-untold Done ws was w = absurd (w refl)
-untold (Stopped b) ws was w = refl
-untold Cut ws was w = refl
+pub untold : (z : End) (ws was : List ℕ) → (z ≡ Ok tt → ⊥) → was ≡ told z ws was
+untold (Ok tt) ws was w = absurd (w refl)
+untold (Err (Unreadable b)) ws was w = refl
+untold (Err Cut) ws was w = refl

@@ -1,7 +1,7 @@
 -- What the caching disk is as a drive: a face and a medium of each block, 48-bit commands, a cache and, as chosen, the write through it.
-use Rattle.std.specs.Prelude.{◌≡◌, ℕ, ◌/◌, min, Bool, true, cond, List, [], length, vec_items}
-use Rattle.ata.specs.declared.answer.End.{End}
-use Rattle.ata.specs.declared.answer.End.TheVariants.{Done, Stopped, Cut}
+use Rattle.std.specs.Prelude.{◌≡◌, ℕ, ◌/◌, min, Bool, true, cond, List, [], length, vec_items, Ok, Err}
+use Rattle.ata.specs.Machine.{End}
+use Rattle.ata.specs.declared.answer.Stop.TheVariants.{Unreadable, Cut}
 use Rattle.ata.specs.Machine.{Store, Machine}
 use Rattle.ata.specs.Words.{showing}
 use Rattle.ata.specs.Commands.{State}
@@ -66,11 +66,11 @@ pub record Kept (d e : CachingDisk) : Type 0 where
 
 -- what a read step put into a buffer
 abbrev pub put : End → List ℕ → List ℕ
-put Done new = new
-put (Stopped b) new = []
-put Cut new = []
+put (Ok tt) new = new
+put (Err (Unreadable b)) new = []
+put (Err Cut) new = []
 
 abbrev pub Untouched : End → List ℕ → List ℕ → Type 0
-Untouched Done was new = Unit {0}
-Untouched (Stopped b) was new = new ≡ was
-Untouched Cut was new = new ≡ was
+Untouched (Ok tt) was new = Unit {0}
+Untouched (Err (Unreadable b)) was new = new ≡ was
+Untouched (Err Cut) was new = new ≡ was

@@ -3,7 +3,7 @@ use Rattle.std.proofs.Common.{◌≡◌, ℕ, ◌+◌, ◌*◌, ◌≤◌, List,
 use borrow.Rule.Slice.PartMut.{put_mid}
 use Rattle.std.proofs.lemmas.List.{take-append-drop, drop-drop, length-take-le}
 use Rattle.std.proofs.lemmas.Slice.{drop-put_mid}
-use Rattle.ata.specs.declared.answer.End.{End}
+use Rattle.ata.specs.Machine.{End}
 use Rattle.ata.specs.Machine.{Machine, Outcome, ends}
 use Rattle.ata.specs.Commands.{over}
 use Rattle.disk.specs.Quiet.{Filled}

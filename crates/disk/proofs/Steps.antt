@@ -1,6 +1,6 @@
 -- One step of a drive that puts no face on its medium by itself.
-use Rattle.std.proofs.Common.{◌≡◌, ℕ, zero, suc, true, false, List, [], ◌∷◌, Some, None, Option, sym, refl, ap, ◌∙◌, arith}
-use Rattle.ata.specs.declared.answer.End.TheVariants.{Cut}
+use Rattle.std.proofs.Common.{◌≡◌, ℕ, zero, suc, true, false, List, [], ◌∷◌, Some, None, Option, sym, refl, ap, ◌∙◌, arith, Err}
+use Rattle.ata.specs.declared.answer.Stop.TheVariants.{Cut}
 use Rattle.ata.specs.Machine.{Content, Store, Machine, Step, settle, settled, powered, step, act, ends}
 use Rattle.disk.specs.declared.power.Power.{Power}
 use Rattle.disk.specs.Powers.{lasts, spent, machine_with}
@@ -28,12 +28,12 @@ step_lasts s p q x h e =
     by (Some (suc n)) f t = refl
 
 -- without
-pub step_fails : (s : Store) (p q : Power) (x : Step) → lasts p.left ≡ false → q ≡ spent p.left p → step still x (machine_with s p) ≡ ends Cut [] (machine_with (record { face = s.medium; medium = s.medium; caching = s.caching }) q)
+pub step_fails : (s : Store) (p q : Power) (x : Step) → lasts p.left ≡ false → q ≡ spent p.left p → step still x (machine_with s p) ≡ ends (Err Cut) [] (machine_with (record { face = s.medium; medium = s.medium; caching = s.caching }) q)
 step_fails s p q x h e =
     ap (λ (m : Machine). powered p.left x m) (settled_still (machine_with s p)) ∙ by p.left refl h
-    ∙ ap (λ (r : Power). ends Cut [] (machine_with (record { face = s.medium; medium = s.medium; caching = s.caching }) r)) (sym e)
+    ∙ ap (λ (r : Power). ends (Err Cut) [] (machine_with (record { face = s.medium; medium = s.medium; caching = s.caching }) r)) (sym e)
   where
-    by : (l : Option ℕ) → p.left ≡ l → lasts l ≡ false → powered l x (machine_with s p) ≡ ends Cut [] (machine_with (record { face = s.medium; medium = s.medium; caching = s.caching }) (spent l p))
+    by : (l : Option ℕ) → p.left ≡ l → lasts l ≡ false → powered l x (machine_with s p) ≡ ends (Err Cut) [] (machine_with (record { face = s.medium; medium = s.medium; caching = s.caching }) (spent l p))
     by None f t = let z : ◌≡◌ {A = ℕ} 0 1 = cc in absurd (omega arith)
     by (Some zero) f t = refl
     by (Some (suc n)) f t = let z : ◌≡◌ {A = ℕ} 0 1 = cc in absurd (omega arith)

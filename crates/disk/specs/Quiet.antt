@@ -1,6 +1,6 @@
 -- The steps of a drive that puts no face on its medium by itself, and how far a run of them has come.
 use Rattle.std.specs.Prelude.{◌≡◌, ℕ, false, List, ◌++◌, drop}
-use Rattle.ata.specs.declared.answer.End.{End}
+use Rattle.ata.specs.Machine.{End}
 use Rattle.ata.specs.Machine.{Machine, Step, Choice, Oracle, Outcome, ends, steps}
 use Rattle.ata.specs.Commands.{over}
 

@@ -1,7 +1,7 @@
 -- From the steps that a command took to what it leaves of the disk.
 use Rattle.std.proofs.Common.{◌≡◌, ℕ, ◌≤◌, Bool, true, false, cond, ltb, List, [], ◌∷◌, length, None, sym, refl, ap, ◌∙◌, arith}
 use Rattle.std.proofs.lemmas.Bool.Decides.{nat_tests}
-use Rattle.ata.specs.declared.answer.End.{End}
+use Rattle.ata.specs.Machine.{End}
 use Rattle.ata.specs.Machine.{Step, idle_step, Outcome, step, steps, ends}
 use Rattle.ata.specs.Commands.{gives, answered, ran, aborted, told, with_machine, one_order_more, returned, lit_again}
 use Rattle.ata.specs.Commands.{tells as telling}

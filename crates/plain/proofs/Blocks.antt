@@ -1,7 +1,6 @@
 -- A block of the plain disk: what a read or a write of its cell says of the faces.
-use Rattle.std.proofs.Common.{◌≡◌, ℕ, ◌+◌, ◌*◌, ◌<◌, ◌≤◌, Bool, true, false, cond, ◌&&◌, eqb, List, [], length, get_or, set, sym, refl, ap, ◌∙◌, arith}
+use Rattle.std.proofs.Common.{◌≡◌, ℕ, ◌+◌, ◌*◌, ◌<◌, ◌≤◌, Bool, true, false, cond, ◌&&◌, eqb, List, [], length, get_or, set, sym, refl, ap, ◌∙◌, arith, Ok}
 use Rattle.std.proofs.lemmas.Bool.Decides.{nat_tests}
-use Rattle.ata.specs.declared.answer.End.TheVariants.{Done}
 use Rattle.ata.specs.Machine.{Content, unreadable, bytes, write_step, act, ends}
 use Rattle.disk.specs.declared.power.Power.{Power}
 use Rattle.disk.specs.Cells.{inside, cell_at, with_cell, contents}
@@ -23,9 +22,9 @@ pub first_false : (a b v : Bool) → v ≡ (a && b) → b ≡ true → v ≡ fal
 first_false false b v e h f = refl
 first_false true b v e h f = let z : ◌≡◌ {A = ℕ} 0 1 = cc in absurd (omega arith)
 
-pub write_done : (n : ℕ) (image new : List ℕ) (q : Power) (t : Bool) (b : ℕ) (xs : List ℕ) → contents 513 0 n new ≡ set (contents 513 0 n image) b (bytes xs) → act (write_step t b (bytes xs)) q.left (machine_with (store_of n image) q) ≡ ends Done [] (machine_with (store_of n new) q)
-write_done n image new q true b xs e = ap (λ (z : List Content). ends Done [] (machine_with (record { face = z; medium = z; caching = false }) q)) (sym e)
-write_done n image new q false b xs e = ap (λ (z : List Content). ends Done [] (machine_with (record { face = z; medium = z; caching = false }) q)) (sym e)
+pub write_done : (n : ℕ) (image new : List ℕ) (q : Power) (t : Bool) (b : ℕ) (xs : List ℕ) → contents 513 0 n new ≡ set (contents 513 0 n image) b (bytes xs) → act (write_step t b (bytes xs)) q.left (machine_with (store_of n image) q) ≡ ends (Ok tt) [] (machine_with (store_of n new) q)
+write_done n image new q true b xs e = ap (λ (z : List Content). ends (Ok tt) [] (machine_with (record { face = z; medium = z; caching = false }) q)) (sym e)
+write_done n image new q false b xs e = ap (λ (z : List Content). ends (Ok tt) [] (machine_with (record { face = z; medium = z; caching = false }) q)) (sym e)
 
 -- the blocks after a write of a cell
 pub block_written : (n : ℕ) (image slice new : List ℕ) (b : ℕ) (xs : List ℕ) (v : Bool) → slice ≡ image → b < n → 513 * n ≤ length image → length xs ≡ 512 → v ≡ (inside slice (513 * b) && eqb (length xs) 512) → new ≡ cond v (with_cell slice (513 * b) xs) slice → contents 513 0 n new ≡ set (contents 513 0 n image) b (bytes xs)

@@ -1,8 +1,7 @@
 -- Each command that is asked comes to its steps.
-use Rattle.std.proofs.Common.{◌≡◌, ℕ, zero, suc, ◌+◌, ◌-◌, ◌*◌, ◌<◌, ◌≤◌, Bool, true, false, List, [], ◌∷◌, length, take, drop, sym, refl, ap, ◌∙◌, zero-mul, arith}
+use Rattle.std.proofs.Common.{◌≡◌, ℕ, zero, suc, ◌+◌, ◌-◌, ◌*◌, ◌<◌, ◌≤◌, Bool, true, false, List, [], ◌∷◌, length, take, drop, sym, refl, ap, ◌∙◌, zero-mul, arith, Ok}
 use Rattle.ata.specs.declared.task.TaskFile.{TaskFile}
 use Rattle.ata.specs.declared.task.AtaCommand.TheVariants.{CheckPowerMode}
-use Rattle.ata.specs.declared.answer.End.TheVariants.{Done}
 use Rattle.ata.specs.Machine.{Content, bytes, look, Step, read_step, write_step, flush_step, idle_step, Oracle, steps}
 use Rattle.ata.specs.Words.{wide, through, blocks_of, count_limit}
 use Rattle.ata.specs.Commands.{State, nothing, size, reads, writes, blocks, ran, perform}
@@ -83,7 +82,7 @@ comes_write ws most w t ys b p e u h k l r =
 
 -- one silent step
 abbrev Still : Step → Type 0
-Still x = (f : List Content) → ((look x f).end ≡ Done) × ((look x f).given ≡ [])
+Still x = (f : List Content) → ((look x f).end ≡ Ok tt) × ((look x f).given ≡ [])
 
 comes_one : (ws : List ℕ) (most : ℕ) (t : TaskFile) (x : Step) → Still x → ((o : Oracle) (s : State) → Keep ws most s → perform o s t nothing ≡ ran s [] (steps o (x ∷ []) s.machine)) →
     Comes ws most (plain_ask t) (group 1 0) (x ∷ [])

@@ -1,8 +1,8 @@
 -- A conversation whose commands are steps is those steps, one after another.
-use Rattle.std.proofs.Common.{◌≡◌, ℕ, suc, ◌+◌, ◌<◌, ◌≤◌, min, true, false, List, [], ◌∷◌, ◌++◌, length, take, drop, Some, None, Ok, sym, refl, ap, ◌∙◌, subst, arith}
+use Rattle.std.proofs.Common.{◌≡◌, ℕ, suc, ◌+◌, ◌<◌, ◌≤◌, min, true, false, List, [], ◌∷◌, ◌++◌, length, take, drop, Some, None, Ok, sym, refl, ap, ◌∙◌, subst, arith, Err}
 use Rattle.std.proofs.lemmas.List.{length-append, length-take, length-drop}
-use Rattle.ata.specs.declared.answer.End.{End}
-use Rattle.ata.specs.declared.answer.End.TheVariants.{Done, Stopped, Cut}
+use Rattle.ata.specs.Machine.{End}
+use Rattle.ata.specs.declared.answer.Stop.TheVariants.{Unreadable, Cut}
 use Rattle.ata.specs.Machine.{Machine, Step, Oracle, Outcome, steps, ends, next, begun}
 use Rattle.ata.specs.Commands.{State, Gave, Formed, with_machine, ordered, answered, ran, perform, gives}
 use Rattle.ata.specs.Exchange.{Exchange, Agrees}
@@ -35,9 +35,9 @@ pub record Comes (ws : List ℕ) (most : ℕ) (k : Ask) (g : Group) (xs : List S
   pub bytes : k.len ≡ g.bytes
   pub runs : (o : Oracle) (s : State) (room : List ℕ) → Keep ws most s → length room ≡ k.len → perform o s k.task (k.carry room) ≡ ran s room (run o xs s)
   pub few : (o : Oracle) (s : State) → Keep ws most s → length (run o xs s).given ≤ k.len
-  pub all : (o : Oracle) (s : State) → Keep ws most s → (run o xs s).end ≡ Done → length (run o xs s).given ≡ k.len
+  pub all : (o : Oracle) (s : State) → Keep ws most s → (run o xs s).end ≡ Ok tt → length (run o xs s).given ≡ k.len
   pub gains_all : k.gains (Ok tt) ≡ k.len
-  pub gains_some : (o : Oracle) (s : State) (x : ℕ) → Keep ws most s → (run o xs s).end ≡ Stopped x → k.gains (failed Unreadable (Some x)) ≡ length (run o xs s).given
+  pub gains_some : (o : Oracle) (s : State) (x : ℕ) → Keep ws most s → (run o xs s).end ≡ Err (Unreadable x) → k.gains (failed Unreadable (Some x)) ≡ length (run o xs s).given
   pub gains_none : k.gains (failed NoAnswer None) ≡ 0
 
 -- The asks are the steps, and their parts of the buffer follow one another from `at` on, up to `to`.
@@ -57,18 +57,18 @@ pub record Stepping (s : State) (gs : List Group) (ys : List Step) (at : ℕ) (b
   pub commands : q.commands ≡ p.commands + commands_of gs (begun choices ys s.machine)
   pub bytes : q.bytes ≡ p.bytes + bytes_by (run choices ys s).end (length (run choices ys s).given) (finished_of gs (begun choices ys s.machine))
 
-done_cut : {X : Type 0} → Done ≡ Cut → X
+done_cut : {X : Type 0} → ◌≡◌ {A = End} (Ok tt) (Err Cut) → X
 done_cut e = let z : ◌≡◌ {A = ℕ} 0 1 = cc in absurd (omega arith)
 
 -- steps that lost their power began with one
-pub cut_begun : (zs : List Step) (o : Oracle) (m : Machine) → (steps o zs m).end ≡ Cut → 0 < begun o zs m
+pub cut_begun : (zs : List Step) (o : Oracle) (m : Machine) → (steps o zs m).end ≡ Err Cut → 0 < begun o zs m
 cut_begun [] o m e = done_cut e
 cut_begun (z ∷ zs) o m e = begun_some z zs o m
 
-bytes_turn : (z : End) (a b c len whole rest f f' : ℕ) → a ≡ b + bytes_by z rest f → b ≡ c + len → whole ≡ len + rest → (z ≡ Cut → f' ≡ len + f) → a ≡ c + bytes_by z whole f'
-bytes_turn Done a b c len whole rest f f' h i j k = omega arith
-bytes_turn (Stopped x) a b c len whole rest f f' h i j k = omega arith
-bytes_turn Cut a b c len whole rest f f' h i j k = let l = k refl in omega arith
+bytes_turn : (z : End) (a b c len whole rest f f' : ℕ) → a ≡ b + bytes_by z rest f → b ≡ c + len → whole ≡ len + rest → (z ≡ Err Cut → f' ≡ len + f) → a ≡ c + bytes_by z whole f'
+bytes_turn (Ok tt) a b c len whole rest f f' h i j k = omega arith
+bytes_turn (Err (Unreadable x)) a b c len whole rest f f' h i j k = omega arith
+bytes_turn (Err Cut) a b c len whole rest f f' h i j k = let l = k refl in omega arith
 
 -- the same by an outcome and a number of steps that are known
 module _ (s : State) (gs : List Group) (ys : List Step) (at : ℕ) (buffer : List ℕ) (p : Tally) (t : State) (end : List ℕ) (q : Tally) (r : Verdict) where
@@ -98,7 +98,7 @@ module _ (s : State) (gs : List Group) (ys : List Step) (at : ℕ) (buffer : Lis
     out = run o xs s
 
     -- the first command's steps were done, and the rest goes on from there
-    pub then_more : (len : ℕ) (p' : Tally) → 0 < g.steps → len ≡ g.bytes → out.end ≡ Done → length out.given ≡ len → at + len ≤ length buffer →
+    pub then_more : (len : ℕ) (p' : Tally) → 0 < g.steps → len ≡ g.bytes → out.end ≡ Ok tt → length out.given ≡ len → at + len ≤ length buffer →
         p'.commands ≡ p.commands + 1 → p'.bytes ≡ p.bytes + len →
         (more : Stepping (with_machine (ordered s) out.machine) hs zs (at + len) (put at out.given buffer) p' t end q r) → Stepping s gs ys at buffer p t end q r
     then_more len p' some size e l room co by more =
@@ -127,7 +127,7 @@ module _ (s : State) (gs : List Group) (ys : List Step) (at : ℕ) (buffer : Lis
         orders_on a b = omega arith
 
     -- the first command's steps were not all done, and nothing else was sent
-    pub then_stop : (f : Step) (others : List Step) → xs ≡ f ∷ others → (out.end ≡ Done → ⊥) →
+    pub then_stop : (f : Step) (others : List Step) → xs ≡ f ∷ others → (out.end ≡ Ok tt → ⊥) →
         t ≡ with_machine (ordered s) out.machine → end ≡ put at out.given buffer → r ≡ told_by out.end →
         q.commands ≡ p.commands + 1 → q.bytes ≡ p.bytes + bytes_by out.end (length out.given) 0 →
         Stepping s gs ys at buffer p t end q r
@@ -146,20 +146,20 @@ module _ (s : State) (gs : List Group) (ys : List Step) (at : ℕ) (buffer : Lis
         (co ∙ ap (λ (n : ℕ). p.commands + n) (sym cs))
         (by ∙ ap (λ (n : ℕ). p.bytes + bytes_by out.end (length out.given) n) (sym fs))
       where
-        stays : (e : End) (h : List ℕ) (m : Machine) → out.end ≡ e → (e ≡ Done → ⊥) → next e h m (λ n. steps o zs n) ≡ ends e h m
-        stays Done h m f no-done = absurd (no-done refl)
-        stays (Stopped x) h m f no-done = refl
-        stays Cut h m f no-done = refl
+        stays : (e : End) (h : List ℕ) (m : Machine) → out.end ≡ e → (e ≡ Ok tt → ⊥) → next e h m (λ n. steps o zs n) ≡ ends e h m
+        stays (Ok tt) h m f no-done = absurd (no-done refl)
+        stays (Err (Unreadable x)) h m f no-done = refl
+        stays (Err Cut) h m f no-done = refl
 
-        begun_stays : (e : End) (k n : ℕ) → (e ≡ Done → ⊥) → begun_then e k n ≡ k
-        begun_stays Done k n no-done = absurd (no-done refl)
-        begun_stays (Stopped x) k n no-done = refl
-        begun_stays Cut k n no-done = refl
+        begun_stays : (e : End) (k n : ℕ) → (e ≡ Ok tt → ⊥) → begun_then e k n ≡ k
+        begun_stays (Ok tt) k n no-done = absurd (no-done refl)
+        begun_stays (Err (Unreadable x)) k n no-done = refl
+        begun_stays (Err Cut) k n no-done = refl
 
-stop_done : {x : ℕ} → Stopped x ≡ Done → ⊥
+stop_done : {x : ℕ} → ◌≡◌ {A = End} (Err (Unreadable x)) (Ok tt) → ⊥
 stop_done e = let z : ◌≡◌ {A = ℕ} 0 1 = cc in omega arith
 
-cut_done : Cut ≡ Done → ⊥
+cut_done : ◌≡◌ {A = End} (Err Cut) (Ok tt) → ⊥
 cut_done e = let z : ◌≡◌ {A = ℕ} 0 1 = cc in omega arith
 
 module _ {D : Type 0} (does : D → Exchange → D → Type 0) (meaning : D → State) (formed : (x : D) → Formed (meaning x)) (agrees : (x : D) (e : Exchange) (y : D) → does x e y → Agrees (meaning x) e (meaning y)) (ws : List ℕ) (most : ℕ) where
@@ -193,9 +193,9 @@ module _ {D : Type 0} (does : D → Exchange → D → Type 0) (meaning : D → 
     judged_so x f = ap judged (says ∙ ap answered f) ∙ tells x
       where
         tells : (x : End) → judged (answered x) ≡ told_by x
-        tells Done = refl
-        tells (Stopped b) = refl
-        tells Cut = refl
+        tells (Ok tt) = refl
+        tells (Err (Unreadable b)) = refl
+        tells (Err Cut) = refl
 
     counted_bytes : (v : Verdict) (n : ℕ) → judged h.answer ≡ v → k.gains v ≡ n → (counted k h.answer p).bytes ≡ p.bytes + n
     counted_bytes v n j w = ap (λ (z : Verdict). p.bytes + k.gains z) j ∙ ap (λ (z : ℕ). p.bytes + z) w
@@ -209,8 +209,8 @@ module _ {D : Type 0} (does : D → Exchange → D → Type 0) (meaning : D → 
         some_steps = (let l = comes.long in let i : length xs ≡ suc (length comes.others) = ap length comes.some in omega arith)
 
         by : (x : End) → result.end ≡ x → Stepping s (g ∷ gs) ys k.at buffer p (meaning e) end q r
-        by Done x =
-            let j : judged h.answer ≡ Ok tt = judged_so Done x in
+        by (Ok tt) x =
+            let j : judged h.answer ≡ Ok tt = judged_so (Ok tt) x in
             let a : length result.given ≡ k.len = comes.all o s keep x in
             let u : k.at + length result.given ≤ length buffer = omega arith in
             let keep' : Keep ws most (meaning h.mid) = record {
@@ -223,15 +223,15 @@ module _ {D : Type 0} (does : D → Exchange → D → Type 0) (meaning : D → 
             then_more s (g ∷ gs) ys k.at buffer p (meaning e) end q r g gs refl xs zs cut comes.long o k.len (counted k h.answer p) some_steps comes.bytes x a room refl (counted_bytes (Ok tt) k.len j comes.gains_all)
             (subst (λ (m : State). Stepping m gs zs (k.at + k.len) (put k.at result.given buffer) (counted k h.answer p) (meaning e) end q r) becomes
             (subst (λ (m : List ℕ). Stepping (meaning h.mid) gs zs (k.at + k.len) m (counted k h.answer p) (meaning e) end q r) lies z))
-        by (Stopped b) x =
-            let j : judged h.answer ≡ failed Unreadable (Some b) = judged_so (Stopped b) x in
+        by (Err (Unreadable b)) x =
+            let j : judged h.answer ≡ failed Unreadable (Some b) = judged_so (Err (Unreadable b)) x in
             let w = h.badly _ j in
             then_stop s (g ∷ gs) ys k.at buffer p (meaning e) end q r g gs refl xs zs cut comes.long o comes.first comes.others comes.some (λ f. stop_done (sym x ∙ f))
             (ap meaning (sym w.0) ∙ becomes) (w.1 ∙ lies) (w.3 ∙ ap told_by (sym x))
             (ap (λ (z : Tally). z.commands) w.2)
             (ap (λ (z : Tally). z.bytes) w.2 ∙ counted_bytes (failed Unreadable (Some b)) (length result.given) j (comes.gains_some o s b keep x) ∙ ap (λ (z : End). p.bytes + bytes_by z (length result.given) 0) (sym x))
-        by Cut x =
-            let j : judged h.answer ≡ failed NoAnswer None = judged_so Cut x in
+        by (Err Cut) x =
+            let j : judged h.answer ≡ failed NoAnswer None = judged_so (Err Cut) x in
             let w = h.badly _ j in
             then_stop s (g ∷ gs) ys k.at buffer p (meaning e) end q r g gs refl xs zs cut comes.long o comes.first comes.others comes.some (λ f. cut_done (sym x ∙ f))
             (ap meaning (sym w.0) ∙ becomes) (w.1 ∙ lies) (w.3 ∙ ap told_by (sym x))

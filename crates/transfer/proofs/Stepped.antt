@@ -1,9 +1,9 @@
 -- What a conversation is to the blocks: READ, WRITE and the commands without data by their steps alone.
-use Rattle.std.proofs.Common.{◌≡◌, ℕ, zero, suc, ◌+◌, ◌-◌, ◌*◌, ◌/◌, ◌<◌, ◌≤◌, min, Bool, true, false, List, [], ◌∷◌, ◌++◌, length, sym, refl, ap, ◌∙◌, subst, mul-zero, zero-add, arith}
+use Rattle.std.proofs.Common.{◌≡◌, ℕ, zero, suc, ◌+◌, ◌-◌, ◌*◌, ◌/◌, ◌<◌, ◌≤◌, min, Bool, true, false, List, [], ◌∷◌, ◌++◌, length, sym, refl, ap, ◌∙◌, subst, mul-zero, zero-add, arith, Ok, Err}
 use native.Mathlib.Nat.{div-eq_of_lt}
 use Rattle.std.proofs.lemmas.List.{length-append}
-use Rattle.ata.specs.declared.answer.End.{End}
-use Rattle.ata.specs.declared.answer.End.TheVariants.{Done, Stopped, Cut}
+use Rattle.ata.specs.Machine.{End}
+use Rattle.ata.specs.declared.answer.Stop.TheVariants.{Unreadable, Cut}
 use Rattle.ata.specs.declared.task.AtaCommand.TheVariants.{CheckPowerMode}
 use Rattle.ata.specs.Machine.{Step, flush_step, idle_step, Oracle, begun}
 use Rattle.ata.specs.Words.{wide, through}
@@ -24,10 +24,10 @@ use Rattle.transfer.proofs.Plans.{Keep, Plan, Stepping, run, planned, cut_begun}
 use Rattle.transfer.proofs.Comings.{comes_flush, comes_idle}
 use Rattle.transfer.proofs.Transfers.{piece_is, plan_reads, plan_writes}
 
-bytes_same : (e : End) (given f g : ℕ) → (e ≡ Cut → f ≡ g) → bytes_by e given f ≡ bytes_by e given g
-bytes_same Done given f g h = refl
-bytes_same (Stopped x) given f g h = refl
-bytes_same Cut given f g h = h refl
+bytes_same : (e : End) (given f g : ℕ) → (e ≡ Err Cut → f ≡ g) → bytes_by e given f ≡ bytes_by e given g
+bytes_same (Ok tt) given f g h = refl
+bytes_same (Err (Unreadable x)) given f g h = refl
+bytes_same (Err Cut) given f g h = h refl
 
 -- from groups to the numbers that they come to
 stepped_by : (s : State) (gs : List Group) (ys : List Step) (commands finished : ℕ → ℕ) (buffer : List ℕ) (t : State) (end : List ℕ) (q : Tally) (r : Verdict) →

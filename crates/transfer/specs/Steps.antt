@@ -1,7 +1,7 @@
 -- What a transfer is to the blocks, free of pieces: a list of steps, and how its end, its bytes and its commands are told.
-use Rattle.std.specs.Prelude.{◌≡◌, ℕ, zero, suc, ◌+◌, ◌-◌, ◌*◌, ◌/◌, min, Bool, true, false, List, [], ◌∷◌, ◌++◌, length, Some, None, Ok}
-use Rattle.ata.specs.declared.answer.End.{End}
-use Rattle.ata.specs.declared.answer.End.TheVariants.{Done, Stopped, Cut}
+use Rattle.std.specs.Prelude.{◌≡◌, ℕ, zero, suc, ◌+◌, ◌-◌, ◌*◌, ◌/◌, min, Bool, true, false, List, [], ◌∷◌, ◌++◌, length, Some, None, Ok, Err}
+use Rattle.ata.specs.Machine.{End}
+use Rattle.ata.specs.declared.answer.Stop.TheVariants.{Unreadable, Cut}
 use Rattle.ata.specs.Machine.{Content, Machine, Step, flush_step, idle_step, Oracle, Look, shown, steps, begun}
 use Rattle.ata.specs.Commands.{State, reads, writes, over}
 use Rattle.ata.specs.Shows.{read_shows, write_shows}
@@ -31,15 +31,15 @@ abbrev pub write_steps : Force → ℕ → List Content → List Step
 write_steps force b cs = writes (goes_through force) b cs ++ flush_steps (is_flushed force) (length cs)
 
 abbrev pub told_by : End → Verdict
-told_by Done = Ok tt
-told_by (Stopped x) = failed Unreadable (Some x)
-told_by Cut = failed NoAnswer None
+told_by (Ok tt) = Ok tt
+told_by (Err (Unreadable x)) = failed Unreadable (Some x)
+told_by (Err Cut) = failed NoAnswer None
 
 -- the bytes that count: all that were given, but after no answer only those of the commands that were finished
 abbrev pub bytes_by : End → ℕ → ℕ → ℕ
-bytes_by Done given finished = given
-bytes_by (Stopped x) given finished = given
-bytes_by Cut given finished = finished
+bytes_by (Ok tt) given finished = given
+bytes_by (Err (Unreadable x)) given finished = given
+bytes_by (Err Cut) given finished = finished
 
 -- how many pieces of t blocks hold j blocks
 abbrev pub pieces_of : ℕ → ℕ → ℕ

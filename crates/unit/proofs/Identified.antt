@@ -1,9 +1,9 @@
 -- A unit that begins fit remembers what is true of its drive.
-use Rattle.std.proofs.Common.{◌≡◌, ℕ, ◌+◌, Bool, true, false, cond, List, [], ◌∷◌, ◌++◌, length, drop, replicate, sym, ap, ◌∙◌, arith, get_or-set_other}
+use Rattle.std.proofs.Common.{◌≡◌, ℕ, ◌+◌, Bool, true, false, cond, List, [], ◌∷◌, ◌++◌, length, drop, replicate, sym, ap, ◌∙◌, arith, get_or-set_other, Ok, Err}
 use Rattle.std.proofs.lemmas.List.{append-nil, length-set}
 use Rattle.ata.specs.declared.answer.Answer.{Answer}
-use Rattle.ata.specs.declared.answer.End.{End}
-use Rattle.ata.specs.declared.answer.End.TheVariants.{Done, Stopped, Cut}
+use Rattle.ata.specs.Machine.{End}
+use Rattle.ata.specs.declared.answer.Stop.TheVariants.{Unreadable, Cut}
 use Rattle.ata.specs.declared.task.AtaCommand.TheVariants.{IdentifyDevice}
 use Rattle.ata.specs.Machine.{Oracle, Outcome, idle_step, steps}
 use Rattle.ata.specs.Words.{word, wide, through, blocks_of, showing}
@@ -60,9 +60,9 @@ module _ (s t : State) (words : List ℕ) (answer : Answer) (formed : Formed s) 
       long = length-set s.words 85 (word s.words 85 + cond s.machine.store.caching 32 0) ∙ formed.words_long
 
       by : (x : End) → answer ≡ answered x → words ≡ told x shown blank → Told
-      by Done a w = (w ∙ whole_words shown long, ap (λ (g : Gave). g.state.words) e)
-      by (Stopped b) a w = not_fit (fit_by (judged answer) words) fit (ap (λ (z : Answer). fit_by (judged z) words) a)
-      by Cut a w = not_fit (fit_by (judged answer) words) fit (ap (λ (z : Answer). fit_by (judged z) words) a)
+      by (Ok tt) a w = (w ∙ whole_words shown long, ap (λ (g : Gave). g.state.words) e)
+      by (Err (Unreadable b)) a w = not_fit (fit_by (judged answer) words) fit (ap (λ (z : Answer). fit_by (judged z) words) a)
+      by (Err Cut) a w = not_fit (fit_by (judged answer) words) fit (ap (λ (z : Answer). fit_by (judged z) words) a)
 
   told_true : (o : Oracle) → gives answer t words ≡ perform o s (task IdentifyDevice 0 0) (fetches_words blank) → Told
   unfolding perform

@@ -1,8 +1,8 @@
 -- What the unit's commands do to the blocks, from what it said to the drive.
-use Rattle.std.proofs.Common.{◌≡◌, ℕ, zero, suc, ◌+◌, ◌/◌, ◌≤◌, Bool, true, false, cond, List, [], ◌∷◌, ◌++◌, length, take, drop, None, Ok, Result, sym, refl, ap, ◌∙◌, subst, inl, inr}
+use Rattle.std.proofs.Common.{◌≡◌, ℕ, zero, suc, ◌+◌, ◌/◌, ◌≤◌, Bool, true, false, cond, List, [], ◌∷◌, ◌++◌, length, take, drop, None, Ok, Result, sym, refl, ap, ◌∙◌, subst, inl, inr, Err}
 use Rattle.std.proofs.lemmas.List.{take-append-drop}
-use Rattle.ata.specs.declared.answer.End.{End}
-use Rattle.ata.specs.declared.answer.End.TheVariants.{Done, Stopped, Cut}
+use Rattle.ata.specs.Machine.{End}
+use Rattle.ata.specs.declared.answer.Stop.TheVariants.{Unreadable, Cut}
 use Rattle.ata.specs.declared.task.TaskFile.{TaskFile}
 use Rattle.ata.specs.Machine.{Content, Step, Oracle, Look, shown, steps, scored}
 use Rattle.ata.specs.Commands.{State, Gave, Load, room, reads, writes, blocks, over, ordered, gives, no_answer, taken, obeys, perform}
@@ -24,10 +24,10 @@ use Rattle.unit.specs.declared.replies.Reply.TheVariants.{Good}
 use Rattle.unit.specs.Replies.{replied}
 use Rattle.unit.specs.Works.{Shown, Dark, dark_state, dark_reply}
 
-bytes_all : (e : End) (g f : ℕ) → (e ≡ Cut → ⊥) → bytes_by e g f ≡ g
-bytes_all Done g f h = refl
-bytes_all (Stopped x) g f h = refl
-bytes_all Cut g f h = absurd (h refl)
+bytes_all : (e : End) (g f : ℕ) → (e ≡ Err Cut → ⊥) → bytes_by e g f ≡ g
+bytes_all (Ok tt) g f h = refl
+bytes_all (Err (Unreadable x)) g f h = refl
+bytes_all (Err Cut) g f h = absurd (h refl)
 
 -- while no power failure is pending, steps show what the faces do
 pub shown_by : (w : Work) (s : State) (before : List ℕ) (t : State) (end : List ℕ) (q : Tally) (v : Verdict) → s.machine.lit ≡ true →
@@ -64,7 +64,7 @@ write_looks force b cs f h =
     ∙ ap (λ (k : Look). next_look k.end k.given k.face (λ q. looks (flush_steps (is_flushed force) (length cs)) q)) (looks_writes (goes_through force) cs b f h)
     ∙ flushed (is_flushed force) (length cs) (written b cs f)
   where
-    flushed : (v : Bool) (n : ℕ) (g : List Content) → next_look Done [] g (λ q. looks (flush_steps v n) q) ≡ shown g
+    flushed : (v : Bool) (n : ℕ) (g : List Content) → next_look (Ok tt) [] g (λ q. looks (flush_steps v n) q) ≡ shown g
     flushed false n g = refl
     flushed true zero g = refl
     flushed true (suc n) g = refl

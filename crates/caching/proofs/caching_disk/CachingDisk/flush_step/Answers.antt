@@ -1,7 +1,6 @@
-use Rattle.std.proofs.Common.{◌≡◌, [], vec_items, sym, ◌∙◌, arith, rules}
+use Rattle.std.proofs.Common.{◌≡◌, [], vec_items, sym, ◌∙◌, arith, rules, Ok}
 use Rattle.std.specs.Vec.{with_items}
 use Rattle.std.proofs.lemmas.List.{with_items_is}
-use Rattle.ata.specs.declared.answer.End.TheVariants.{Done}
 use Rattle.ata.specs.Machine.{flush_step, ends}
 use Rattle.disk.specs.Powers.{machine_with}
 use Rattle.caching.specs.Meaning.{image_of}
@@ -34,7 +33,7 @@ returns c =
     record {
       stepped =
           goes_on c.args.self.now d c.take_power.result flush_step (c.take_power.ensures.stepped flush_step) c.if-not-take_power.false
-          ∙ (λ i. ends Done [] (machine_with (record { face = sym face i; medium = sym medium i; caching = d.caching }) d.power));
+          ∙ (λ i. ends (Ok tt) [] (machine_with (record { face = sym face i; medium = sym medium i; caching = d.caching }) d.power));
       settled = λ h. medium ∙ sym face;
       kept = record { blocks = k.blocks; through = k.through; orders = k.orders };
     }

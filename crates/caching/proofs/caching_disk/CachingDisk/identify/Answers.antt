@@ -1,6 +1,5 @@
-use Rattle.std.proofs.Common.{◌++◌, drop, ap, ◌∙◌}
+use Rattle.std.proofs.Common.{◌++◌, drop, ap, ◌∙◌, Ok}
 use Rattle.ata.specs.declared.answer.Answer.{Answer}
-use Rattle.ata.specs.declared.answer.End.TheVariants.{Done}
 use Rattle.ata.specs.Commands.{gives}
 use Rattle.caching.specs.Meaning.{words_of, state_of}
 use Rattle.caching.proofs.Answered.{identified, words_over, untold}
@@ -15,7 +14,7 @@ returns-in-Done c =
     let ws = c.copy_from_slice.new.self in
     λ b.
     ap (λ (x : Answer). gives x (state_of e) (ws ++ drop 256 was)) c.answer_for.ensures
-    ∙ identified d e c.count_order.new.self Done was (ws ++ drop 256 was)
+    ∙ identified d e c.count_order.new.self (Ok tt) was (ws ++ drop 256 was)
     (record { counted = c.count_order.ensures; blocks = k.blocks; through = k.through; orders = k.orders }) c.in-Done.ensures.stepped c.if-into-lt256.false
     (words_over d e was ws c.idle_step.ensures.caches k.blocks k.through (c.copy_from_slice.ensures.after ∙ c.words.ensures))
 

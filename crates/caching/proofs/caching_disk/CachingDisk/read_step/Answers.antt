@@ -1,7 +1,6 @@
-use Rattle.std.proofs.Common.{◌≡◌, ℕ, ◌+◌, ◌*◌, Bool, true, cond, eqb, List, length, sym, ap, ◌∙◌, subst, arith}
+use Rattle.std.proofs.Common.{◌≡◌, ℕ, ◌+◌, ◌*◌, Bool, true, cond, eqb, List, length, sym, ap, ◌∙◌, subst, arith, Ok}
 use Rattle.std.proofs.lemmas.Bool.Decides.{nat_tests}
-use Rattle.ata.specs.declared.answer.End.{End}
-use Rattle.ata.specs.declared.answer.End.TheVariants.{Done}
+use Rattle.ata.specs.Machine.{End}
 use Rattle.ata.specs.Machine.{read_step, bytes_of_read, ends}
 use Rattle.disk.specs.Cells.{cell_at, readable}
 use Rattle.disk.proofs.Acts.{read_done, read_stopped}
@@ -21,7 +20,7 @@ returns-then-read_cell c =
       stepped =
           goes_on c.args.self.now d c.take_power.result (read_step b) (c.take_power.ensures.stepped (read_step b)) c.if-not-take_power.false
           ∙ read_done (machine_of d) b k (face_at d.blocks (image_of d) slice b c.as_slice.ensures.value (omega (arith, c.take_power.ensures.kept.blocks))) can
-          ∙ ap (λ (z : List ℕ). ends Done z (machine_of d)) (sym (c.read_cell.ensures.content ∙ ap (λ (v : Bool). cond v (bytes_of_read k) c.args.into.now) c.if-read_cell.true));
+          ∙ ap (λ (z : List ℕ). ends (Ok tt) z (machine_of d)) (sym (c.read_cell.ensures.content ∙ ap (λ (v : Bool). cond v (bytes_of_read k) c.args.into.now) c.if-read_cell.true));
       untouched = tt;
       kept = c.take_power.ensures.kept;
     }

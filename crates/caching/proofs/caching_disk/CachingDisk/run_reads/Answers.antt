@@ -1,7 +1,6 @@
-use Rattle.std.proofs.Common.{◌≡◌, ℕ, ◌+◌, ◌-◌, ◌*◌, ◌≤◌, List, ◌++◌, length, take, sym, refl, ap, ◌∙◌, subst, arith}
+use Rattle.std.proofs.Common.{◌≡◌, ℕ, ◌+◌, ◌-◌, ◌*◌, ◌≤◌, List, ◌++◌, length, take, sym, refl, ap, ◌∙◌, subst, arith, Ok}
 use borrow.Rule.Slice.PartMut.{put_mid, put_same}
 use Rattle.std.proofs.lemmas.Slice.{take-put_mid}
-use Rattle.ata.specs.declared.answer.End.TheVariants.{Done}
 use Rattle.ata.specs.Machine.{read_step, steps, ends}
 use Rattle.ata.specs.Commands.{reads}
 use Rattle.disk.specs.Quiet.{quiet, Reached}
@@ -60,7 +59,7 @@ returns c =
     let i = c.loop-i.i in
     let out = c.loop-i.into in
     record {
-      ran = filled (steps quiet (reads b n) (machine_of c.args.self.now)) Done (take (512 * i) out) (machine_of c.loop-i.self) c.args.into.now out
+      ran = filled (steps quiet (reads b n) (machine_of c.args.self.now)) (Ok tt) (take (512 * i) out) (machine_of c.loop-i.self) c.args.into.now out
           (reached_all (reads b n) (machine_of c.args.self.now) i (take (512 * i) out) (machine_of c.loop-i.self) c.loop-i.invariant.0 (omega (arith, length_reads b n)))
           (over_front (512 * i) out c.args.into.now (omega arith) c.loop-i.invariant.1);
       kept = c.loop-i.invariant.2;

@@ -1,7 +1,7 @@
-use Rattle.std.proofs.Common.{◌≡◌, ℕ, [], vec_items, sym, refl, ◌∙◌, arith, rules}
+use Rattle.std.proofs.Common.{◌≡◌, ℕ, [], vec_items, sym, refl, ◌∙◌, arith, rules, Err}
 use Rattle.std.specs.Vec.{with_items}
 use Rattle.std.proofs.lemmas.List.{with_items_is}
-use Rattle.ata.specs.declared.answer.End.TheVariants.{Cut}
+use Rattle.ata.specs.declared.answer.Stop.TheVariants.{Cut}
 use Rattle.ata.specs.Machine.{ends}
 use Rattle.disk.specs.Powers.{machine_with}
 use Rattle.disk.proofs.Steps.{step_lasts, step_fails, spent_orders}
@@ -47,7 +47,7 @@ returns c =
     record {
       stepped = λ x.
           step_fails (store_in d) d.power q x (sym c.tick.ensures.had ∙ c.if-tick.false) c.tick.ensures.after
-          ∙ (λ i. ends Cut [] (machine_with (record { face = sym face i; medium = sym medium i; caching = d.caching }) q));
+          ∙ (λ i. ends (Err Cut) [] (machine_with (record { face = sym face i; medium = sym medium i; caching = d.caching }) q));
       lit = λ h. let z : ◌≡◌ {A = ℕ} 0 1 = cc in absurd (omega arith);
       caches = refl;
       kept = record { blocks = refl; through = refl; orders = spent_orders d.power q c.tick.ensures.after };

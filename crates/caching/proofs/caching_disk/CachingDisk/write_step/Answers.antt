@@ -1,8 +1,7 @@
-use Rattle.std.proofs.Common.{◌≡◌, ◌<◌, Bool, true, cond, List, [], set, vec_items, sym, ap, ◌∙◌, arith, rules}
+use Rattle.std.proofs.Common.{◌≡◌, ◌<◌, Bool, true, cond, List, [], set, vec_items, sym, ap, ◌∙◌, arith, rules, Ok}
 use mathlib.Core.Logic.{∥∥₁_map}
 use Rattle.std.specs.Vec.{with_items}
 use Rattle.std.proofs.lemmas.List.{with_items_is}
-use Rattle.ata.specs.declared.answer.End.TheVariants.{Done}
 use Rattle.ata.specs.Machine.{Content, bytes, write_step, ends}
 use Rattle.disk.specs.Powers.{machine_with}
 use Rattle.caching.specs.Sides.{media}
@@ -60,7 +59,7 @@ returns c =
     record {
       stepped =
           goes_on c.args.self.now d c.take_power.result (write_step t b x) (c.take_power.ensures.stepped (write_step t b x)) c.if-not-take_power.false
-          ∙ (λ i. ends Done [] (machine_with (record { face = sym face i; medium = sym medium i; caching = d.caching }) d.power));
+          ∙ (λ i. ends (Ok tt) [] (machine_with (record { face = sym face i; medium = sym medium i; caching = d.caching }) d.power));
       lit = λ h. c.take_power.ensures.lit c.if-not-take_power.false ∙ c.requires.lit;
       kept = record { blocks = k.blocks; through = k.through; orders = k.orders };
     }

@@ -1,6 +1,6 @@
-use Rattle.std.proofs.Common.{◌≡◌, ℕ, List, ◌++◌, drop, sym, refl, ap, ◌∙◌}
+use Rattle.std.proofs.Common.{◌≡◌, ℕ, List, ◌++◌, drop, sym, refl, ap, ◌∙◌, Ok, Err}
 use Rattle.ata.specs.declared.answer.Answer.{Answer}
-use Rattle.ata.specs.declared.answer.End.TheVariants.{Done, Cut}
+use Rattle.ata.specs.declared.answer.Stop.TheVariants.{Cut}
 use Rattle.ata.specs.Machine.{idle_step}
 use Rattle.ata.specs.Commands.{gives, over}
 use Rattle.disk.specs.Claimed.{words_for}
@@ -17,7 +17,7 @@ returns-then-not-tick c =
     let q = c.tick.new.self in
     λ b.
     ap (λ (x : Answer). gives x (plain d.blocks (image_of d) q) c.args.into.now) c.answer_for.ensures
-    ∙ identified d p q Cut c.args.into.now c.args.into.now c.count_order.ensures
+    ∙ identified d p q (Err Cut) c.args.into.now c.args.into.now c.count_order.ensures
     (step_fails (store_of d.blocks (image_of d)) p q idle_step (sym c.tick.ensures.had ∙ c.if-not-tick.true) c.tick.ensures.after)
     (spent_orders p q c.tick.ensures.after) c.if-into-lt256.false refl
 
@@ -33,6 +33,6 @@ returns c =
     ap (λ (z : List ℕ). z ++ drop 256 was) w ∙ ap (λ (n : ℕ). ws ++ drop n was) (sym (words_long (claims_of d.blocks))) in
     λ b.
     ap (λ (x : Answer). gives x (plain d.blocks (image_of d) q) (c.copy_from_slice.new.self ++ drop 256 was)) c.answer_for-2.ensures
-    ∙ identified d p q Done was (c.copy_from_slice.new.self ++ drop 256 was) c.count_order.ensures
+    ∙ identified d p q (Ok tt) was (c.copy_from_slice.new.self ++ drop 256 was) c.count_order.ensures
     (step_lasts (store_of d.blocks (image_of d)) p q idle_step (sym c.tick.ensures.had ∙ c.if-not-tick.false) c.tick.ensures.after)
     (spent_orders p q c.tick.ensures.after) c.if-into-lt256.false f

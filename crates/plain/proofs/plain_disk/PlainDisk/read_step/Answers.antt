@@ -1,7 +1,6 @@
-use Rattle.std.proofs.Common.{◌≡◌, ℕ, ◌*◌, Bool, true, cond, eqb, List, length, sym, refl, ap, ◌∙◌, subst, arith}
+use Rattle.std.proofs.Common.{◌≡◌, ℕ, ◌*◌, Bool, true, cond, eqb, List, length, sym, refl, ap, ◌∙◌, subst, arith, Ok}
 use Rattle.std.proofs.lemmas.Bool.Decides.{nat_tests}
-use Rattle.ata.specs.declared.answer.End.{End}
-use Rattle.ata.specs.declared.answer.End.TheVariants.{Done}
+use Rattle.ata.specs.Machine.{End}
 use Rattle.ata.specs.Machine.{read_step, bytes_of_read, ends}
 use Rattle.disk.specs.Cells.{cell_at, readable}
 use Rattle.disk.specs.Powers.{machine_with}
@@ -33,7 +32,7 @@ returns-then-read_cell c =
       stepped =
           step_lasts s d.power q (read_step b) (sym c.tick.ensures.had ∙ c.if-not-tick.false) c.tick.ensures.after
           ∙ read_done (machine_with s q) b k (face_at d.blocks (image_of d) slice b c.as_slice.ensures.value (omega arith)) can
-          ∙ ap (λ (z : List ℕ). ends Done z (machine_with s q)) (sym (c.read_cell.ensures.content ∙ ap (λ (v : Bool). cond v (bytes_of_read k) c.args.into.now) c.if-read_cell.true));
+          ∙ ap (λ (z : List ℕ). ends (Ok tt) z (machine_with s q)) (sym (c.read_cell.ensures.content ∙ ap (λ (v : Bool). cond v (bytes_of_read k) c.args.into.now) c.if-read_cell.true));
       untouched = tt;
       kept = record { blocks = refl; orders = spent_orders d.power q c.tick.ensures.after };
     }
