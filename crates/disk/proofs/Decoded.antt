@@ -1,5 +1,5 @@
 -- The words of a disk say what it claims.
-use Rattle.std.proofs.Common.{◌≡◌, ℕ, ◌+◌, ◌*◌, ◌^◌, ◌<◌, Bool, true, false, cond, not, ◌&&◌, eqb, List, length, set, refl, ap, ◌∙◌, arith}
+use Rattle.std.proofs.Common.{◌≡◌, ℕ, ◌+◌, ◌*◌, ◌^◌, ◌<◌, Bool, true, false, cond, not, ◌&&◌, eqb, List, length, set, sym, refl, ap, ◌∙◌, arith}
 use lib.Bits.{bit_and}
 use Rattle.std.proofs.lemmas.List.{set-get_or}
 use Rattle.ata.specs.Words.{word, wide, cached, through, blocks_of, showing}
@@ -85,3 +85,11 @@ never_switches ws h SetFeatures f n = ap (λ (v : Bool). switches (cond v (switc
 never_switches ws h StandbyImmediate f n = refl
 never_switches ws h CheckPowerMode f n = refl
 never_switches ws h Unlisted f n = refl
+
+-- A disk that switches one claims it.
+pub switching_claims : (k : Claims) (c : AtaCommand) (f : Feature) (n : ℕ) → switches (taken (words_for k) c f n) ≡ true → k.cache ≡ true
+switching_claims k c f n h = by k.cache (cached_for k)
+  where
+    by : (v : Bool) → cached (words_for k) ≡ v → v ≡ true
+    by true e = refl
+    by false e = sym (never_switches (words_for k) e c f n) ∙ h

@@ -46,21 +46,3 @@ with_errors m e = record { store = m.store; lit = m.lit; left = m.left; errors =
 
 abbrev pub state_with : List ℕ → ℕ → Store → Power → State
 state_with words most s p = record { words = words; most = most; orders = p.orders; machine = machine_with s p }
-
--- The power after a command that moves n blocks was looked at: it is counted, unless it is aborted.
-abbrev pub looked_at : ℕ → ℕ → Bool → Power → Power
-looked_at most n short p = cond (nat_lt most n || short) p (order_counted p)
-
--- Its steps are next, from block b on of a disk of some size.
-pub record Admitted (size most b n : ℕ) (short : Bool) (p q : Power) : Type 0 where
-  pub counted : q ≡ order_counted p
-  pub few : n ≤ most
-  pub long : short ≡ false
-  pub within : b + n ≤ size
-
--- Or it moves nothing, and has its answer.
-abbrev pub Admits : ℕ → ℕ → ℕ → ℕ → Bool → Power → Power → Option Answer → Type 0
-Admits size most b n short p q None = Admitted size most b n short p q
-Admits size most b n short p q (Some a) =
-    (words : List ℕ) (store : Store) (buffer : List ℕ) (run : Gave) → length store.face ≡ size →
-    gives a (state_with words most store q) buffer ≡ moves (state_with words most store p) b n short buffer run

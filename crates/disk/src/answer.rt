@@ -3,7 +3,7 @@
 ghost use Rattle.std.specs.Prelude.{◌≡◌};
 ghost use Rattle.ata.specs.Commands.{answered};
 
-use ata::{Answer, End};
+use ata::{Answer, Stop};
 
 /// The answer to a command that is not taken.
 pub const ABORTED: Answer = Answer {
@@ -13,21 +13,21 @@ pub const ABORTED: Answer = Answer {
 };
 
 /// The answer to a command whose steps ended so.
-pub fn answer_for(end: End) -> Answer
+pub fn answer_for(end: Result<(), Stop>) -> Answer
     ensures { result ≡ answered «end» }
 {
     match end {
-        End::Done => Answer {
+        Ok(()) => Answer {
             status: 0x40,
             error: 0,
             block: 0,
         },
-        End::Stopped(block) => Answer {
+        Err(Stop::Unreadable(block)) => Answer {
             status: 0x41,
             error: 0x40,
             block,
         },
-        End::Cut => Answer {
+        Err(Stop::Cut) => Answer {
             status: 0,
             error: 0,
             block: 0,

@@ -11,7 +11,7 @@ pub const BLOCK: usize = 512;
 pub const CELL: usize = 513;
 
 /// Whether the cell at `at` lies wholly inside an image of `size` bytes.
-fn lies_inside(size: usize, at: usize) -> bool
+pub(crate) fn lies_inside(size: usize, at: usize) -> bool
     ensures { result ≡ nat_le (at + 513) size }
 {
     size >= CELL && at <= size - CELL
@@ -47,10 +47,7 @@ pub fn write_cell(image: &mut [u8], at: usize, data: &[u8]) -> bool
     ensures was { result ≡ (inside image.old at && length «data».now == 512) }
     ensures content { image.new ≡ (if result then with_cell image.old at «data».now else image.old) }
 {
-    if !lies_inside(image.len(), at) {
-        return false;
-    }
-    if data.len() != BLOCK {
+    if !lies_inside(image.len(), at) || data.len() != BLOCK {
         return false;
     }
     image[at] = 0;

@@ -4,7 +4,7 @@ ghost use Rattle.std.specs.Prelude.{◌≡◌, ◌&&◌, if◌then◌else◌};
 ghost use Rattle.disk.specs.Cells.{inside};
 ghost use Rattle.disk.specs.Copied.{with_copy};
 
-use crate::cell::CELL;
+use crate::cell::{CELL, lies_inside};
 
 /// Copies the cell at `from` over the one at `to`, its mark too, and says whether it could be done.
 pub fn copy_cell(image: &mut [u8], from: usize, to: usize) -> bool
@@ -12,13 +12,7 @@ pub fn copy_cell(image: &mut [u8], from: usize, to: usize) -> bool
     ensures content { image.new ≡ (if result then with_copy image.old from to else image.old) }
 {
     let size = image.len();
-    if size < CELL {
-        return false;
-    }
-    if from > size - CELL {
-        return false;
-    }
-    if to > size - CELL {
+    if !lies_inside(size, from) || !lies_inside(size, to) {
         return false;
     }
     image.copy_within(from..from + CELL, to);

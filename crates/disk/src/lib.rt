@@ -12,6 +12,6 @@ mod words;
 pub use answer::{ABORTED, answer_for};
 pub use cell::{BLOCK, CELL, cell_readable, read_cell, write_cell};
 pub use copy::copy_cell;
-pub use order::{Order, order_of};
+pub use order::{Order, blocks_named, order_of};
 pub use power::Power;
 pub use words::{Claims, identify_words};

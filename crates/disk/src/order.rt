@@ -22,12 +22,11 @@ pub enum Order {
 }
 
 /// The blocks that a count names: 0 stands for the most that its field could name.
-fn blocks_named(count: u16, limit: u32) -> u32
-    requires { 0 < limit }
+pub fn blocks_named(count: u16, limit: u32) -> u32
     ensures is { result ≡ named limit count }
-    ensures some { 0 < result }
+    ensures some { 0 < limit → 0 < result }
 {
-    if count == 0 { limit } else { count as u32 }
+    if count == 0 { limit } else { u32::from(count) }
 }
 
 /// The order if the disk claims it.

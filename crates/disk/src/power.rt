@@ -1,10 +1,10 @@
 //! The power that a disk has, and what it counts.
 
-ghost use Rattle.std.specs.Prelude.{◌≡◌};
-ghost use Rattle.disk.specs.Powers.{full, lasts, spent, order_counted, error_counted, cut_after, restored, looked_at, Admits};
+ghost use Rattle.std.specs.Prelude.{◌≡◌, if◌then◌else◌, Ok, Err};
+ghost use Rattle.ata.specs.declared.answer.Stop.TheVariants.{Cut};
+ghost use Rattle.disk.specs.Powers.{full, lasts, spent, order_counted, error_counted, cut_after, restored};
 
-use crate::answer::ABORTED;
-use ata::Answer;
+use ata::Stop;
 
 /// A lit disk has power for as many steps as are left, or for ever where none is said.
 #[derive(Clone, Copy)]
@@ -28,21 +28,20 @@ impl Power {
         }
     }
 
-    /// Takes one step's power, and says whether there was any.
-    pub fn tick(&mut self) -> bool
-        ensures had { result ≡ lasts self.old.left }
+    /// Takes one step's power, where there is any.
+    pub fn tick(&mut self) -> Result<(), Stop>
+        ensures had { result ≡ (if lasts self.old.left then Ok tt else Err Cut) }
         ensures after { self.new ≡ spent self.old.left self.old }
     {
         match self.left {
-            None => true,
+            None => Ok(()),
+            Some(0) => {
+                self.lit = false;
+                Err(Stop::Cut)
+            }
             Some(n) => {
-                if n == 0 {
-                    self.lit = false;
-                    false
-                } else {
-                    self.left = Some(n - 1);
-                    true
-                }
+                self.left = Some(n - 1);
+                Ok(())
             }
         }
     }
@@ -78,31 +77,5 @@ impl Power {
             self.lit = true;
             self.left = None;
         }
-    }
-
-    /// Takes a command that moves `count` blocks to or from a disk of `size` blocks, and answers it where none is moved.
-    pub fn admit(
-        &mut self,
-        size: u64,
-        most: u32,
-        block: u64,
-        count: u32,
-        short: bool,
-    ) -> Option<Answer>
-        ensures answer { Admits size most block count short self.old self.new result }
-        ensures counted { self.new ≡ looked_at most count short self.old }
-    {
-        if count > most || short {
-            return Some(ABORTED);
-        }
-        self.count_order();
-        if block > size || count as u64 > size - block {
-            return Some(Answer {
-                status: 0x41,
-                error: 0x10,
-                block: size,
-            });
-        }
-        None
     }
 }

@@ -21,16 +21,10 @@ impl Claims {
     }
 }
 
-fn either(on: bool, set: u16, clear: u16) -> u16
+fn pick<T: Copy>(on: bool, set: T, clear: T) -> T
     ensures { result ≡ (if on then set else clear) }
 {
     if on { set } else { clear }
-}
-
-fn blocks_if(on: bool, blocks: u64) -> u64
-    ensures { result ≡ (if on then blocks else 0) }
-{
-    if on { blocks } else { 0 }
 }
 
 /// The 16 bits of `n` from `unit`, a power of two, on.
@@ -45,14 +39,14 @@ fn bits_from(n: u64, unit: u64) -> u16
 pub fn identify_words(claims: Claims) -> [u16; 256]
     ensures { result ≡ words_for claims }
 {
-    let short = blocks_if(!claims.wide, claims.blocks);
-    let long = blocks_if(claims.wide, claims.blocks);
+    let short = pick(!claims.wide, claims.blocks, 0);
+    let long = pick(claims.wide, claims.blocks, 0);
     let mut words = [0; 256];
     words[60] = bits_from(short, 1);
     words[61] = bits_from(short, 1 << 16);
-    words[82] = either(claims.cache, 1 << 5, 0);
-    words[83] = either(claims.wide, 1 << 14 | 1 << 10, 1 << 14);
-    words[84] = either(claims.writes_through(), 1 << 6, 0);
+    words[82] = pick(claims.cache, 1 << 5, 0);
+    words[83] = pick(claims.wide, 1 << 14 | 1 << 10, 1 << 14);
+    words[84] = pick(claims.writes_through(), 1 << 6, 0);
     words[100] = bits_from(long, 1);
     words[101] = bits_from(long, 1 << 16);
     words[102] = bits_from(long, 1 << 32);

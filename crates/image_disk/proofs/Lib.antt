@@ -1,0 +1,3 @@
+mod Taking
+mod Keeps
+mod Answered

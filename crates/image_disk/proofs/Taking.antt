@@ -1,0 +1,54 @@
+-- A step once its power is asked for: with it the step is acted, without it the disk is dark.
+use Rattle.std.proofs.Common.{◌≡◌, ℕ, zero, suc, Bool, true, false, cond, [], Some, None, Option, refl, sym, ap, ◌∙◌, arith, Ok, Err}
+use Rattle.ata.specs.declared.answer.Stop.TheVariants.{Unreadable, Cut}
+use Rattle.ata.specs.Machine.{End, Step, idle_step, step, act, ends}
+use Rattle.disk.specs.Powers.{lasts, spent}
+use Rattle.disk.specs.Quiet.{still}
+use Rattle.disk.proofs.Steps.{step_lasts, step_fails}
+use Rattle.image_disk.specs.Held.{Held, machine_in, with_power, faded, one_error_on, power_taken, had_power}
+
+-- a Result that says whether there was power
+there_was : (v : Bool) → ◌≡◌ {A = End} (cond v (Ok tt) (Err Cut)) (Ok tt) → v ≡ true
+there_was true e = refl
+there_was false e = let z : ◌≡◌ {A = ℕ} 0 1 = cc in absurd (omega arith)
+
+there_was_none : (v : Bool) (z : End) → z ≡ cond v (Ok tt) (Err Cut) → (z ≡ Ok tt → ⊥) → v ≡ false
+there_was_none true z e w = absurd (w e)
+there_was_none false z e w = refl
+
+pub with_power_taken : (h k : Held) → had_power h ≡ Ok tt → k ≡ power_taken h → k ≡ with_power (spent h.power.left h.power) h
+with_power_taken h k w e = e ∙ ap (λ (v : Bool). record { claims = h.claims; store = cond v h.store (faded h.store); power = spent h.power.left h.power }) (there_was (lasts h.power.left) w)
+
+pub goes_on : (h k : Held) (x : Step) → had_power h ≡ Ok tt → k ≡ power_taken h → step still x (machine_in h) ≡ act x k.power.left (machine_in k)
+goes_on h k x w e =
+    step_lasts h.store h.power (spent h.power.left h.power) x (there_was (lasts h.power.left) w) refl
+    ∙ ap (λ (j : Held). act x j.power.left (machine_in j)) (sym (with_power_taken h k w e))
+
+-- a step that is not done for want of power
+pub stops : (h k : Held) (x : Step) (z : End) → z ≡ had_power h → k ≡ power_taken h → (z ≡ Ok tt → ⊥) → step still x (machine_in h) ≡ ends z [] (machine_in k)
+stops h k x z r e w =
+    let f = there_was_none (lasts h.power.left) z r w in
+    let cut : z ≡ Err Cut = r ∙ ap (λ (v : Bool). cond v (Ok tt) (Err Cut)) f in
+    let is : k ≡ record { claims = h.claims; store = faded h.store; power = spent h.power.left h.power } =
+    e ∙ ap (λ (v : Bool). record { claims = h.claims; store = cond v h.store (faded h.store); power = spent h.power.left h.power }) f in
+    step_fails h.store h.power (spent h.power.left h.power) x f refl
+    ∙ (λ i. ends (sym cut i) [] (machine_in (sym is i)))
+
+-- taking power that is there leaves the disk lit
+pub lit_on : (h k : Held) → had_power h ≡ Ok tt → k ≡ power_taken h → k.power.lit ≡ h.power.lit
+lit_on h k w e = ap (λ (j : Held). j.power.lit) e ∙ by h.power.left (there_was (lasts h.power.left) w)
+  where
+    by : (l : Option ℕ) → lasts l ≡ true → (spent l h.power).lit ≡ h.power.lit
+    by None t = refl
+    by (Some zero) t = let z : ◌≡◌ {A = ℕ} 0 1 = cc in absurd (omega arith)
+    by (Some (suc n)) t = refl
+
+-- an unreadable block, once it is counted
+pub stopped_at : (h k : Held) (x : Step) (b : ℕ) → k ≡ one_error_on h → act x h.power.left (machine_in h) ≡ ends (Err (Unreadable b)) [] (machine_in (one_error_on h)) → act x h.power.left (machine_in h) ≡ ends (Err (Unreadable b)) [] (machine_in k)
+stopped_at h k x b e a = a ∙ ap (λ (j : Held). ends (Err (Unreadable b)) [] (machine_in j)) (sym e)
+
+-- a step that only takes power
+pub idles : (h k : Held) (z : End) → z ≡ had_power h → k ≡ power_taken h → step still idle_step (machine_in h) ≡ ends z [] (machine_in k)
+idles h k (Ok tt) r e = goes_on h k idle_step (sym r) e
+idles h k (Err (Unreadable b)) r e = stops h k idle_step (Err (Unreadable b)) r e (λ w. let z : ◌≡◌ {A = ℕ} 0 1 = cc in absurd (omega arith))
+idles h k (Err Cut) r e = stops h k idle_step (Err Cut) r e (λ w. let z : ◌≡◌ {A = ℕ} 0 1 = cc in absurd (omega arith))

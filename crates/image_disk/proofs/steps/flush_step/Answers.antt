@@ -1,0 +1,19 @@
+use Rattle.std.proofs.Common.{[], sym, ap, ◌∙◌, rules, Ok}
+use Rattle.ata.specs.Machine.{flush_step, ends}
+use Rattle.image_disk.specs.Held.{Held, machine_in}
+use Rattle.image_disk.proofs.Taking.{goes_on, stops}
+use Rattle.image_disk.proofs.steps.flush_step.Goals as goal
+
+pub returns-in_err-take_power-clause-stepped : goal.returns-in_err-take_power-clause-stepped
+returns-in_err-take_power-clause-stepped g c =
+    let h = g.D.ImageDisk.held c.args.disk.now in
+    let k = g.D.ImageDisk.held c.take_power.new.self in
+    let s = stops h k (flush_step) in
+    search rules
+
+pub returns-clause-stepped : goal.returns-clause-stepped
+returns-clause-stepped g c =
+    let h = g.D.ImageDisk.held c.args.disk.now in
+    let k = g.D.ImageDisk.held c.take_power.new.self in
+    goes_on h k (flush_step) (sym c.take_power.ensures.had ∙ c.in_ok-take_power.was) c.take_power.ensures.after
+    ∙ ap (λ (j : Held). ends (Ok tt) [] (machine_in j)) (sym c.flush.ensures)

@@ -1,0 +1,44 @@
+//! What a disk takes a task file for, and whether a command that moves blocks may begin.
+
+ghost use Rattle.std.specs.Prelude.{◌≡◌, true};
+ghost use Rattle.ata.specs.Commands.{taken};
+ghost use Rattle.disk.specs.Claimed.{words_for};
+ghost use Rattle.disk.specs.Orders.{meant, MovesSome, switches};
+ghost use Rattle.image_disk.specs.Held.{Admits};
+
+use crate::kind::ImageDisk;
+use ata::{Answer, TaskFile};
+use disk::{ABORTED, Order, order_of};
+
+/// What the disk takes a task file for.
+pub(crate) fn order<D: ImageDisk>(disk: &D, task: TaskFile) -> Order
+    ensures is { meant result ≡ taken (words_for (D.held disk.now).claims) task.command task.feature task.count }
+    ensures some { MovesSome result }
+    ensures cached { switches (meant result) ≡ true → (D.held disk.now).claims.cache ≡ true }
+{
+    order_of(disk.claims(), task)
+}
+
+/// Takes a command that moves `count` blocks, unless it has its answer already.
+pub(crate) fn admit<D: ImageDisk>(
+    disk: &mut D,
+    block: u64,
+    count: u32,
+    short: bool,
+) -> Result<(), Answer>
+    ensures { Admits D.MOST block count short (D.held disk.old) (D.held disk.new) result }
+{
+    if count > D::MOST || short {
+        return Err(ABORTED);
+    }
+    disk.count_order();
+    let size = disk.claims().blocks;
+    if block > size || u64::from(count) > size - block {
+        return Err(Answer {
+            status: 0x41,
+            error: 0x10,
+            block: size,
+        });
+    }
+    Ok(())
+}

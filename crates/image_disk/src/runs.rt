@@ -1,0 +1,64 @@
+//! The steps of a whole command, up to the first that is not done.
+
+ghost use Rattle.std.specs.Prelude.{◌≡◌, ◌+◌, ◌*◌, ◌≤◌, true, [], length};
+ghost use Rattle.ata.specs.Machine.{steps, ends};
+ghost use Rattle.ata.specs.Commands.{reads, verifies, writes};
+ghost use Rattle.ata.specs.Commands.{blocks as blocksOf};
+ghost use Rattle.disk.specs.Quiet.{quiet, Filled};
+ghost use Rattle.image_disk.specs.Held.{machine_in, Kept};
+
+use crate::kind::ImageDisk;
+use crate::steps::{read_step, verify_step, write_step};
+use ata::Stop;
+use disk::BLOCK;
+
+/// Reads `count` blocks from `block` on into the front of `into`.
+pub(crate) fn run_reads<D: ImageDisk>(
+    disk: &mut D,
+    block: u64,
+    count: u32,
+    into: &mut [u8],
+) -> Result<(), Stop>
+    requires { (block + count ≤ (D.held disk.old).claims.blocks) × (512 * count ≤ length into.old) }
+    ensures ran { Filled (steps quiet (reads block count) (machine_in (D.held disk.old))) result (machine_in (D.held disk.new)) into.old into.new }
+    ensures kept { Kept (D.held disk.old) (D.held disk.new) }
+{
+    for i in 0..count {
+        let at = BLOCK * i as usize;
+        read_step(disk, block + i as u64, &mut into[at..at + BLOCK])?;
+    }
+    Ok(())
+}
+
+/// Looks whether `count` blocks from `block` on can be read.
+pub(crate) fn run_verifies<D: ImageDisk>(disk: &mut D, block: u64, count: u32) -> Result<(), Stop>
+    requires { block + count ≤ (D.held disk.old).claims.blocks }
+    ensures ran { steps quiet (verifies block count) (machine_in (D.held disk.old)) ≡ ends result [] (machine_in (D.held disk.new)) }
+    ensures kept { Kept (D.held disk.old) (D.held disk.new) }
+{
+    for i in 0..count {
+        verify_step(disk, block + i as u64)?;
+    }
+    Ok(())
+}
+
+/// Writes `count` blocks of `from` from `block` on, on a lit disk.
+pub(crate) fn run_writes<D: ImageDisk>(
+    disk: &mut D,
+    through: bool,
+    block: u64,
+    count: u32,
+    from: &[u8],
+) -> Result<(), Stop>
+    requires within { block + count ≤ (D.held disk.old).claims.blocks }
+    requires sized { 512 * count ≤ length from.now }
+    requires lit { (D.held disk.old).power.lit ≡ true }
+    ensures ran { steps quiet (writes through block (blocksOf count from.now)) (machine_in (D.held disk.old)) ≡ ends result [] (machine_in (D.held disk.new)) }
+    ensures kept { Kept (D.held disk.old) (D.held disk.new) }
+{
+    for i in 0..count {
+        let at = BLOCK * i as usize;
+        write_step(disk, through, block + i as u64, &from[at..at + BLOCK])?;
+    }
+    Ok(())
+}

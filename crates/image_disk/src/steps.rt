@@ -1,0 +1,89 @@
+//! One step of a disk, which takes one step's power.
+
+ghost use Rattle.std.specs.Prelude.{◌≡◌, ◌<◌, true, [], length, Ok, Err};
+ghost use Rattle.ata.specs.Machine.{step, ends, read_step, verify_step, write_step, flush_step, cache_step, idle_step};
+ghost use Rattle.ata.specs.Machine.{bytes as holding};
+ghost use Rattle.ata.specs.declared.answer.Stop.TheVariants.{Unreadable};
+ghost use Rattle.disk.specs.Quiet.{still};
+ghost use Rattle.image_disk.specs.Held.{machine_in, Kept, put, Untouched};
+
+use crate::kind::ImageDisk;
+use ata::Stop;
+
+/// Reads a block into the 512 bytes of `into`.
+pub(crate) fn read_step<D: ImageDisk>(disk: &mut D, block: u64, into: &mut [u8]) -> Result<(), Stop>
+    requires { (block < (D.held disk.old).claims.blocks) × (length into.old ≡ 512) }
+    ensures stepped { step still (read_step block) (machine_in (D.held disk.old)) ≡ ends result (put result into.new) (machine_in (D.held disk.new)) }
+    ensures untouched { Untouched result into.old into.new }
+    ensures kept { Kept (D.held disk.old) (D.held disk.new) }
+{
+    disk.take_power()?;
+    if !disk.read_block(block, into) {
+        disk.count_error();
+        return Err(Stop::Unreadable(block));
+    }
+    Ok(())
+}
+
+/// Looks whether a block can be read.
+pub(crate) fn verify_step<D: ImageDisk>(disk: &mut D, block: u64) -> Result<(), Stop>
+    requires { block < (D.held disk.old).claims.blocks }
+    ensures stepped { step still (verify_step block) (machine_in (D.held disk.old)) ≡ ends result [] (machine_in (D.held disk.new)) }
+    ensures kept { Kept (D.held disk.old) (D.held disk.new) }
+{
+    disk.take_power()?;
+    if !disk.is_readable(block) {
+        disk.count_error();
+        return Err(Stop::Unreadable(block));
+    }
+    Ok(())
+}
+
+/// Writes the 512 bytes of `data` to a block of a lit disk; the block can then be read.
+pub(crate) fn write_step<D: ImageDisk>(
+    disk: &mut D,
+    through: bool,
+    block: u64,
+    data: &[u8],
+) -> Result<(), Stop>
+    requires within { block < (D.held disk.old).claims.blocks }
+    requires sized { length «data».now ≡ 512 }
+    requires lit { (D.held disk.old).power.lit ≡ true }
+    ensures stepped { step still (write_step through block (holding «data».now)) (machine_in (D.held disk.old)) ≡ ends result [] (machine_in (D.held disk.new)) }
+    ensures lit { result ≡ Ok tt → (D.held disk.new).power.lit ≡ true }
+    ensures kept { Kept (D.held disk.old) (D.held disk.new) }
+{
+    disk.take_power()?;
+    disk.write_block(through, block, data);
+    Ok(())
+}
+
+/// Puts what waits in a cache on the medium.
+pub(crate) fn flush_step<D: ImageDisk>(disk: &mut D) -> Result<(), Stop>
+    ensures stepped { step still flush_step (machine_in (D.held disk.old)) ≡ ends result [] (machine_in (D.held disk.new)) }
+    ensures kept { Kept (D.held disk.old) (D.held disk.new) }
+{
+    disk.take_power()?;
+    disk.flush();
+    Ok(())
+}
+
+/// Switches the cache: on where the disk claims one.
+pub(crate) fn cache_step<D: ImageDisk>(disk: &mut D, on: bool) -> Result<(), Stop>
+    requires { on ≡ true → (D.held disk.old).claims.cache ≡ true }
+    ensures stepped { step still (cache_step on) (machine_in (D.held disk.old)) ≡ ends result [] (machine_in (D.held disk.new)) }
+    ensures kept { Kept (D.held disk.old) (D.held disk.new) }
+{
+    disk.take_power()?;
+    disk.switch(on);
+    Ok(())
+}
+
+/// Takes a step's power and changes nothing else.
+pub(crate) fn idle_step<D: ImageDisk>(disk: &mut D) -> Result<(), Stop>
+    ensures stepped { step still idle_step (machine_in (D.held disk.old)) ≡ ends result [] (machine_in (D.held disk.new)) }
+    ensures caching { result ≡ Ok tt → (D.held disk.new).store.caching ≡ (D.held disk.old).store.caching }
+    ensures kept { Kept (D.held disk.old) (D.held disk.new) }
+{
+    disk.take_power()
+}
