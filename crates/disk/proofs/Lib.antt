@@ -10,3 +10,4 @@ pub mod Loads
 pub mod Acts
 pub mod Copies
 pub mod Sets
+pub mod Blocks

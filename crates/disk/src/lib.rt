@@ -7,6 +7,7 @@ mod cell;
 mod copy;
 mod order;
 mod power;
+mod size;
 mod words;
 
 pub use answer::{ABORTED, answer_for};
@@ -14,4 +15,5 @@ pub use cell::{BLOCK, CELL, cell_readable, read_cell, write_cell};
 pub use copy::copy_cell;
 pub use order::{Order, blocks_named, order_of};
 pub use power::Power;
+pub use size::whole_blocks;
 pub use words::{Claims, identify_words};

@@ -1,3 +1,1 @@
-mod Blocks
-mod Keeps
-mod Answered
+mod Stores

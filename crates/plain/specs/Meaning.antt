@@ -1,7 +1,5 @@
 -- What the plain disk is as a drive: its medium is what a read gives, and it claims nothing.
 use Rattle.std.specs.Prelude.{◌≡◌, ℕ, ◌/◌, min, false, List, [], length, vec_items, Ok, Err}
-use Rattle.ata.specs.Machine.{End}
-use Rattle.ata.specs.declared.answer.Stop.TheVariants.{Unreadable, Cut}
 use Rattle.ata.specs.Machine.{Store, Machine}
 use Rattle.ata.specs.Commands.{State}
 use Rattle.disk.specs.declared.words.Claims.{Claims}
@@ -9,6 +7,7 @@ use Rattle.disk.specs.declared.power.Power.{Power}
 use Rattle.disk.specs.Cells.{contents}
 use Rattle.disk.specs.Claimed.{words_for}
 use Rattle.disk.specs.Powers.{full, machine_with, state_with}
+use Rattle.image_disk.specs.Held.{Held}
 use Rattle.plain.specs.declared.plain_disk.PlainDisk.{PlainDisk}
 
 -- the whole cells of an image, as far as 28 bits go
@@ -39,18 +38,6 @@ machine_of d = machine_with (store_of d.blocks (image_of d)) d.power
 abbrev pub state_of : PlainDisk → State
 state_of d = plain d.blocks (image_of d) d.power
 
--- the parts that no step changes
-pub record Kept (d e : PlainDisk) : Type 0 where
-  pub blocks : e.blocks ≡ d.blocks
-  pub orders : e.power.orders ≡ d.power.orders
-
--- what a read step put into a buffer
-abbrev pub put : End → List ℕ → List ℕ
-put (Ok tt) new = new
-put (Err (Unreadable b)) new = []
-put (Err Cut) new = []
-
-abbrev pub Untouched : End → List ℕ → List ℕ → Type 0
-Untouched (Ok tt) was new = Unit {0}
-Untouched (Err (Unreadable b)) was new = new ≡ was
-Untouched (Err Cut) was new = new ≡ was
+-- what it holds, as any disk over an image
+abbrev pub held_of : PlainDisk → Held
+held_of d = record { claims = claims_of d.blocks; store = store_of d.blocks (image_of d); power = d.power }

@@ -8,10 +8,9 @@ ghost use Rattle.ata.specs.Words.{count_limit};
 ghost use Rattle.disk.proofs.Decoded.{words_long, wide_for, through_for, cache_off_for, blocks_for};
 ghost use Rattle.disk.proofs.Images.{length_contents, contents_sectors};
 
-use crate::commands::MOST;
 use crate::plain_disk::PlainDisk;
 use ata::{Answer, Drive, TaskFile};
-use disk::Order;
+use image_disk::ImageDisk;
 
 impl Drive for PlainDisk {
     ghost meaning = { state_of };
@@ -40,7 +39,7 @@ impl Drive for PlainDisk {
     ghost agrees = { λ x e y h. h };
 
     fn most(&self) -> u32 {
-        MOST
+        Self::MOST
     }
 
     fn is_lit(&self) -> bool {
@@ -48,41 +47,19 @@ impl Drive for PlainDisk {
     }
 
     fn no_data(&mut self, task: TaskFile) -> Answer {
-        if !self.is_lit() {
-            return self.ignore();
-        }
-        let order = self.order(task);
-        self.without_data(task.block, order)
+        image_disk::no_data(self, task)
     }
 
     fn data_out(&mut self, task: TaskFile, from: &[u8]) -> Answer {
-        if !self.is_lit() {
-            return self.ignore();
-        }
-        match self.order(task) {
-            Order::Write { through: _, count } => self.write(task.block, count, from),
-            order => self.without_data(task.block, order),
-        }
+        image_disk::data_out(self, task, from)
     }
 
     fn data_in(&mut self, task: TaskFile, into: &mut [u8]) -> Answer {
-        if !self.is_lit() {
-            return self.ignore();
-        }
-        match self.order(task) {
-            Order::Read(count) => self.read(task.block, count, into),
-            order => self.without_data(task.block, order),
-        }
+        image_disk::data_in(self, task, into)
     }
 
     fn words_in(&mut self, task: TaskFile, into: &mut [u16]) -> Answer {
-        if !self.is_lit() {
-            return self.ignore();
-        }
-        match self.order(task) {
-            Order::Identify => self.identify(into),
-            order => self.without_data(task.block, order),
-        }
+        image_disk::words_in(self, task, into)
     }
 
     fn cut(&mut self, steps: u32) {

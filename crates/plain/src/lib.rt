@@ -2,11 +2,9 @@
 
 #![tactic(auto)]
 
-mod commands;
 mod drive;
+mod kind;
 mod make;
 mod plain_disk;
-mod runs;
-mod steps;
 
 pub use plain_disk::PlainDisk;

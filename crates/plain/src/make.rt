@@ -1,14 +1,10 @@
-//! New disks, and what can be asked of any.
+//! New disks, and the image of one that is taken apart.
 
 ghost use Rattle.std.specs.Prelude.{◌≡◌};
-ghost use Rattle.ata.specs.Commands.{size};
 ghost use Rattle.plain.specs.Meaning.{fresh, image_of, state_of};
 
 use crate::plain_disk::PlainDisk;
-use disk::{CELL, Power};
-
-/// The most blocks that 28 bits can count.
-const LARGEST: u64 = 268_435_455;
+use disk::{CELL, Power, whole_blocks};
 
 impl PlainDisk {
     /// A lit disk over the whole blocks of an image.
@@ -16,7 +12,7 @@ impl PlainDisk {
         ensures state { state_of result ≡ fresh image.items }
         ensures holds { image_of result ≡ image.items }
     {
-        let blocks = ((image.len() / CELL) as u64).min(LARGEST);
+        let blocks = whole_blocks(image.len(), CELL);
         PlainDisk {
             image,
             blocks,
@@ -35,26 +31,5 @@ impl PlainDisk {
             power: _,
         } = self;
         image
-    }
-
-    /// The blocks of the disk.
-    pub fn blocks(&self) -> u64
-        ensures { result ≡ size (state_of self.now) }
-    {
-        self.blocks
-    }
-
-    /// The unreadable blocks that were met, up to 2^32 - 1.
-    pub fn errors(&self) -> u32
-        ensures { result ≡ (state_of self.now).machine.errors }
-    {
-        self.power.errors
-    }
-
-    /// The commands that were taken, up to 2^64 - 1.
-    pub fn orders(&self) -> u64
-        ensures { result ≡ (state_of self.now).orders }
-    {
-        self.power.orders
     }
 }

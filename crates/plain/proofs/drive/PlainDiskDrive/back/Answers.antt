@@ -1,4 +1,4 @@
-use Rattle.plain.proofs.Answered.{power_returned}
+use Rattle.plain.proofs.Stores.{power_returned}
 use Rattle.plain.proofs.drive.PlainDiskDrive.back.Goals as goal
 
 pub returns : goal.returns

@@ -1,0 +1,70 @@
+//! What the plain disk does at a step: each write is on the medium at once.
+
+ghost use Rattle.std.proofs.Common.{sym, ◌∙◌, ap, arith};
+ghost use Rattle.disk.proofs.Images.{length_contents};
+ghost use Rattle.plain.specs.Meaning.{held_of, image_of};
+
+use crate::plain_disk::PlainDisk;
+use ata::Stop;
+use disk::{CELL, Claims, Power, cell_readable, read_cell, write_cell};
+use image_disk::ImageDisk;
+
+impl ImageDisk for PlainDisk {
+    ghost held = { held_of };
+
+    ghost MOST = { 256 };
+
+    ghost sized = { λ x. length_contents 513 0 x.blocks (image_of x) };
+
+    ghost countable = { λ x. omega arith };
+
+    const MOST: u32 = 256;
+
+    /// The plain disk claims its blocks and nothing else.
+    fn claims(&self) -> Claims {
+        Claims {
+            blocks: self.blocks,
+            wide: false,
+            cache: false,
+            through: false,
+        }
+    }
+
+    fn power(&self) -> Power {
+        self.power
+    }
+
+    fn is_caching(&self) -> bool {
+        false
+    }
+
+    fn count_order(&mut self) {
+        self.power.count_order();
+    }
+
+    fn count_error(&mut self) {
+        self.power.count_error();
+    }
+
+    fn take_power(&mut self) -> Result<(), Stop> {
+        self.power.tick()
+    }
+
+    fn is_readable(&self, block: u64) -> bool {
+        cell_readable(self.image.as_slice(), CELL * block as usize)
+    }
+
+    fn read_block(&self, block: u64, into: &mut [u8]) -> bool {
+        read_cell(self.image.as_slice(), CELL * block as usize, into)
+    }
+
+    fn write_block(&mut self, _through: bool, block: u64, data: &[u8]) {
+        write_cell(self.image.as_mut_slice(), CELL * block as usize, data);
+    }
+
+    /// Nothing waits.
+    fn flush(&mut self) {}
+
+    /// Off is how it is.
+    fn switch(&mut self, _on: bool) {}
+}
