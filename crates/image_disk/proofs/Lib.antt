@@ -1,3 +1,4 @@
 mod Taking
 mod Keeps
 mod Answered
+pub mod Forms

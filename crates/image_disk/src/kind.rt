@@ -1,10 +1,11 @@
 //! What each kind of disk over an image says of itself, and does at a step.
 
-ghost use Rattle.std.specs.Prelude.{◌≡◌, ℕ, ◌^◌, ◌<◌, true, length, if◌then◌else◌};
+ghost use Rattle.std.specs.Prelude.{◌≡◌, ℕ, ◌<◌, true, length, if◌then◌else◌};
 ghost use Rattle.ata.specs.Machine.{write_step, flush_step, cache_step, bytes_of_read};
 ghost use Rattle.ata.specs.Machine.{bytes as holding};
 ghost use Rattle.disk.specs.Cells.{readable};
 ghost use Rattle.image_disk.specs.Held.{Held, machine_in, block_in, one_order_on, one_error_on, power_taken, had_power, after};
+ghost use Rattle.image_disk.specs.Sound.{Sound};
 
 use ata::Stop;
 use disk::{Claims, Power};
@@ -66,9 +67,7 @@ pub trait ImageDisk {
         requires { on ≡ true → (held self.old).claims.cache ≡ true }
         ensures { held self.new ≡ after (cache_step on) (held self.old) };
 
-    ghost sized: { (x : Self) → length (held x).store.face ≡ (held x).claims.blocks };
-
-    ghost countable: { (x : Self) → (held x).claims.blocks < 2 ^ 64 };
+    ghost sound: { (x : Self) → Sound MOST (held x) };
 
     final fn has_power(&self) -> bool
         ensures { result ≡ (held self.now).power.lit }

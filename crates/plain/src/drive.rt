@@ -1,12 +1,9 @@
 //! The plain disk as a drive.
 
 ghost use Rattle.ata.specs.Exchange.{Agrees};
-ghost use Rattle.plain.specs.Meaning.{state_of, claims_of, image_of};
-ghost use Rattle.std.specs.Prelude.{◌≡◌, ℕ, refl};
-ghost use Rattle.std.proofs.Common.{sym, ◌∙◌, ap, arith};
-ghost use Rattle.ata.specs.Words.{count_limit};
-ghost use Rattle.disk.proofs.Decoded.{words_long, wide_for, through_for, cache_off_for, blocks_for};
-ghost use Rattle.disk.proofs.Images.{length_contents, contents_sectors};
+ghost use Rattle.image_disk.proofs.Forms.{formed_in};
+ghost use Rattle.plain.specs.Meaning.{held_of, state_of};
+ghost use Rattle.plain.specs.Sound.{sound_of};
 
 use crate::plain_disk::PlainDisk;
 use ata::{Answer, Drive, TaskFile};
@@ -17,24 +14,7 @@ impl Drive for PlainDisk {
 
     ghost does = { λ x e y. Agrees (state_of x) e (state_of y) };
 
-    ghost formed = { λ x.
-        let k = claims_of x.blocks in
-        let narrow = ap count_limit (wide_for k) in
-        record {
-          words_long = words_long k;
-          cache_bit_clear = cache_off_for k;
-          blocks_true = blocks_for k (omega arith) ∙ sym (length_contents 513 0 x.blocks (image_of x));
-          through_wide = λ h. let t = through_for k in let z : ◌≡◌ {A = ℕ} 0 1 = cc in absurd (omega arith);
-          most_some = omega arith;
-          most_fits = omega arith;
-          orders_top = x.orders_fit;
-          errors_top = x.errors_fit;
-          level = refl;
-          cache_claimed = λ h. let z : ◌≡◌ {A = ℕ} 0 1 = cc in absurd (omega arith);
-          off = λ h. refl;
-          dark = λ h. refl;
-          sectors = λ i. contents_sectors 513 0 x.blocks (image_of x) i;
-        } };
+    ghost formed = { λ x. formed_in 256 (held_of x) (sound_of x) };
 
     ghost agrees = { λ x e y h. h };
 

@@ -1,8 +1,7 @@
 //! What the plain disk does at a step: each write is on the medium at once.
 
-ghost use Rattle.std.proofs.Common.{sym, ◌∙◌, ap, arith};
-ghost use Rattle.disk.proofs.Images.{length_contents};
-ghost use Rattle.plain.specs.Meaning.{held_of, image_of};
+ghost use Rattle.plain.specs.Meaning.{held_of};
+ghost use Rattle.plain.specs.Sound.{sound_of};
 
 use crate::plain_disk::PlainDisk;
 use ata::Stop;
@@ -14,9 +13,7 @@ impl ImageDisk for PlainDisk {
 
     ghost MOST = { 256 };
 
-    ghost sized = { λ x. length_contents 513 0 x.blocks (image_of x) };
-
-    ghost countable = { λ x. omega arith };
+    ghost sound = { sound_of };
 
     const MOST: u32 = 256;
 

@@ -25,4 +25,4 @@ returns-in-Ok g c =
     ap (λ (x : Answer). gives x (state_in most k) c.run_reads.new.into) c.answer_for.ensures
     ∙ ran_filled most h j k xs c.run_reads.result c.args.into.now c.run_reads.new.into a.counted c.run_reads.ensures.kept c.run_reads.ensures.ran
     ∙ sym (moves_run (state_in most h) c.args.block c.args.count (ltb (length c.args.into.now) (512 * c.args.count)) c.args.into.now (ran (state_in most h) c.args.into.now (steps quiet xs (machine_in h))) a.few a.long
-    (omega (arith, a.within, g.met.D.ImageDisk.sized c.args.disk.now)))
+    (omega (arith, a.within, (g.met.D.ImageDisk.sound c.args.disk.now).sized)))

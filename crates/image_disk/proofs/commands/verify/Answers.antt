@@ -27,4 +27,4 @@ returns-in-Ok g c =
     ap (λ (x : Answer). gives x (state_in most k) (room l)) c.answer_for.ensures
     ∙ ran_bare most h j k xs c.run_verifies.result (room l) a.counted c.run_verifies.ensures.kept c.run_verifies.ensures.ran
     ∙ sym (moves_run (state_in most h) c.args.block c.args.count false (room l) (ran (state_in most h) (room l) (steps quiet xs (machine_in h))) a.few refl
-    (omega (arith, a.within, g.met.D.ImageDisk.sized c.args.disk.now)))
+    (omega (arith, a.within, (g.met.D.ImageDisk.sound c.args.disk.now).sized)))

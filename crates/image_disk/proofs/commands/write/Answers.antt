@@ -25,4 +25,4 @@ returns-in-Ok g c =
     ap (λ (x : Answer). gives x (state_in most k) []) c.answer_for.ensures
     ∙ ran_bare most h j k xs c.run_writes.result [] a.counted c.run_writes.ensures.kept c.run_writes.ensures.ran
     ∙ sym (moves_run (state_in most h) c.args.block c.args.count (ltb (length c.args.from.now) (512 * c.args.count)) [] (ran (state_in most h) [] (steps quiet xs (machine_in h))) a.few a.long
-    (omega (arith, a.within, g.met.D.ImageDisk.sized c.args.disk.now)))
+    (omega (arith, a.within, (g.met.D.ImageDisk.sound c.args.disk.now).sized)))

@@ -13,7 +13,7 @@ use Rattle.image_disk.proofs.Keeps.{kept_all, kept_on, put_none, untouched_is}
 use Rattle.image_disk.proofs.runs.run_reads.Goals as goal
 
 pub overflow_add-block : goal.overflow_add-block
-overflow_add-block g c = let f = g.met.D.ImageDisk.countable c.args.disk.now in omega (arith, f)
+overflow_add-block g c = let s = g.met.D.ImageDisk.sound c.args.disk.now in omega (arith, s.small)
 
 pub read_step-requires : goal.read_step-requires
 read_step-requires g c = (omega (arith, ap (λ (x : Claims). x.blocks) c.loop-i.invariant.2.claims), omega arith)

@@ -10,7 +10,7 @@ use Rattle.image_disk.proofs.Keeps.{kept_all, kept_on}
 use Rattle.image_disk.proofs.runs.run_writes.Goals as goal
 
 pub overflow_add-block : goal.overflow_add-block
-overflow_add-block g c = let f = g.met.D.ImageDisk.countable c.args.disk.now in omega (arith, f)
+overflow_add-block g c = let s = g.met.D.ImageDisk.sound c.args.disk.now in omega (arith, s.small)
 
 pub write_step-requires-clause-within : goal.write_step-requires-clause-within
 write_step-requires-clause-within g c = omega (arith, ap (λ (x : Claims). x.blocks) c.loop-i.invariant.1.claims)
