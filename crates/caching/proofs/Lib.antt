@@ -1,6 +1,2 @@
 mod Turns
 mod Writes
-mod Keeps
-mod Switches
-mod Blocks
-mod Answered

@@ -1,3 +1,4 @@
 pub mod Sides
 pub mod Meaning
 pub mod Levels
+pub mod Sound

@@ -1,14 +1,12 @@
 -- What the caching disk is as a drive: a face and a medium of each block, 48-bit commands, a cache and, as chosen, the write through it.
 use Rattle.std.specs.Prelude.{◌≡◌, ℕ, ◌/◌, min, Bool, true, cond, List, [], length, vec_items, Ok, Err}
-use Rattle.ata.specs.Machine.{End}
-use Rattle.ata.specs.declared.answer.Stop.TheVariants.{Unreadable, Cut}
 use Rattle.ata.specs.Machine.{Store, Machine}
-use Rattle.ata.specs.Words.{showing}
 use Rattle.ata.specs.Commands.{State}
 use Rattle.disk.specs.declared.words.Claims.{Claims}
 use Rattle.disk.specs.declared.power.Power.{Power}
 use Rattle.disk.specs.Claimed.{words_for}
 use Rattle.disk.specs.Powers.{full, machine_with, state_with}
+use Rattle.image_disk.specs.Held.{Held}
 use Rattle.caching.specs.Sides.{media, faces}
 use Rattle.caching.specs.declared.caching_disk.CachingDisk.{CachingDisk}
 
@@ -54,23 +52,6 @@ machine_of d = machine_with (store_in d) d.power
 abbrev pub state_of : CachingDisk → State
 state_of d = drive_of d.blocks d.through (store_in d) d.power
 
--- the words that IDENTIFY DEVICE gives of it
-abbrev pub words_of : CachingDisk → List ℕ
-words_of d = showing d.caching (words_for (claims_of d.blocks d.through))
-
--- the parts that no step changes
-pub record Kept (d e : CachingDisk) : Type 0 where
-  pub blocks : e.blocks ≡ d.blocks
-  pub through : e.through ≡ d.through
-  pub orders : e.power.orders ≡ d.power.orders
-
--- what a read step put into a buffer
-abbrev pub put : End → List ℕ → List ℕ
-put (Ok tt) new = new
-put (Err (Unreadable b)) new = []
-put (Err Cut) new = []
-
-abbrev pub Untouched : End → List ℕ → List ℕ → Type 0
-Untouched (Ok tt) was new = Unit {0}
-Untouched (Err (Unreadable b)) was new = new ≡ was
-Untouched (Err Cut) was new = new ≡ was
+-- what it holds, as any disk over an image
+abbrev pub held_of : CachingDisk → Held
+held_of d = record { claims = claims_of d.blocks d.through; store = store_in d; power = d.power }

@@ -1,46 +1,25 @@
 //! The caching disk as a drive.
 
 ghost use Rattle.ata.specs.Exchange.{Agrees};
-ghost use Rattle.caching.specs.Meaning.{state_of, claims_of, image_of};
-ghost use Rattle.std.proofs.Common.{sym, ◌∙◌, ap, arith};
-ghost use Rattle.ata.specs.Words.{count_limit};
-ghost use Rattle.disk.proofs.Decoded.{words_long, wide_for, cached_for, cache_off_for, blocks_for};
-ghost use Rattle.disk.proofs.Images.{length_contents, contents_sectors};
-ghost use Rattle.caching.specs.Levels.{off_waits, dark_waits, level_of};
+ghost use Rattle.image_disk.proofs.Forms.{formed_in};
+ghost use Rattle.caching.specs.Meaning.{held_of, state_of};
+ghost use Rattle.caching.specs.Sound.{sound_of};
 
 use crate::caching_disk::CachingDisk;
-use crate::commands::MOST;
 use ata::{Answer, Drive, TaskFile};
-use disk::Order;
+use image_disk::ImageDisk;
 
 impl Drive for CachingDisk {
     ghost meaning = { state_of };
 
     ghost does = { λ x e y. Agrees (state_of x) e (state_of y) };
 
-    ghost formed = { λ x.
-        let k = claims_of x.blocks x.through in
-        let wide = ap count_limit (wide_for k) in
-        record {
-          words_long = words_long k;
-          cache_bit_clear = cache_off_for k;
-          blocks_true = blocks_for k (omega arith) ∙ sym (length_contents 1026 513 x.blocks (image_of x));
-          through_wide = λ h. wide_for k;
-          most_some = omega arith;
-          most_fits = omega arith;
-          orders_top = x.orders_fit;
-          errors_top = x.errors_fit;
-          level = length_contents 1026 0 x.blocks (image_of x) ∙ sym (length_contents 1026 513 x.blocks (image_of x));
-          cache_claimed = λ h. cached_for k;
-          off = λ h. level_of x (off_waits x.caching x.power.lit h);
-          dark = λ h. level_of x (dark_waits x.caching x.power.lit h);
-          sectors = λ i. contents_sectors 1026 513 x.blocks (image_of x) i;
-        } };
+    ghost formed = { λ x. formed_in 65536 (held_of x) (sound_of x) };
 
     ghost agrees = { λ x e y h. h };
 
     fn most(&self) -> u32 {
-        MOST
+        Self::MOST
     }
 
     fn is_lit(&self) -> bool {
@@ -48,41 +27,19 @@ impl Drive for CachingDisk {
     }
 
     fn no_data(&mut self, task: TaskFile) -> Answer {
-        if !self.is_lit() {
-            return self.ignore();
-        }
-        let order = self.order(task);
-        self.without_data(task.block, order)
+        image_disk::no_data(self, task)
     }
 
     fn data_out(&mut self, task: TaskFile, from: &[u8]) -> Answer {
-        if !self.is_lit() {
-            return self.ignore();
-        }
-        match self.order(task) {
-            Order::Write { through, count } => self.write(through, task.block, count, from),
-            order => self.without_data(task.block, order),
-        }
+        image_disk::data_out(self, task, from)
     }
 
     fn data_in(&mut self, task: TaskFile, into: &mut [u8]) -> Answer {
-        if !self.is_lit() {
-            return self.ignore();
-        }
-        match self.order(task) {
-            Order::Read(count) => self.read(task.block, count, into),
-            order => self.without_data(task.block, order),
-        }
+        image_disk::data_in(self, task, into)
     }
 
     fn words_in(&mut self, task: TaskFile, into: &mut [u16]) -> Answer {
-        if !self.is_lit() {
-            return self.ignore();
-        }
-        match self.order(task) {
-            Order::Identify => self.identify(into),
-            order => self.without_data(task.block, order),
-        }
+        image_disk::words_in(self, task, into)
     }
 
     fn cut(&mut self, steps: u32) {

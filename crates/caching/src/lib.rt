@@ -3,11 +3,9 @@
 #![tactic(auto)]
 
 mod caching_disk;
-mod commands;
 mod drive;
+mod kind;
 mod make;
-mod runs;
 mod sides;
-mod steps;
 
 pub use caching_disk::CachingDisk;

@@ -1,15 +1,11 @@
-//! New disks, and what can be asked of any.
+//! New disks, and the image of one that is taken apart.
 
 ghost use Rattle.std.specs.Prelude.{◌≡◌, Bool, true};
-ghost use Rattle.ata.specs.Commands.{size};
 ghost use Rattle.caching.specs.Meaning.{fresh, image_of, state_of, cached_store};
 
 use crate::caching_disk::CachingDisk;
 use crate::sides::{PAIR, settled};
-use disk::Power;
-
-/// The most blocks that 28 bits can count.
-const LARGEST: u64 = 268_435_455;
+use disk::{Power, whole_blocks};
 
 impl CachingDisk {
     /// A lit disk over the whole blocks of an image, with its cache on or off, that takes the write through it or not.
@@ -17,7 +13,7 @@ impl CachingDisk {
         ensures state { state_of result ≡ fresh image.items cache through }
         ensures holds { cache ≡ true → image_of result ≡ image.items }
     {
-        let blocks = ((image.len() / PAIR) as u64).min(LARGEST);
+        let blocks = whole_blocks(image.len(), PAIR);
         CachingDisk {
             image: settled(image, blocks, cache),
             blocks,
@@ -40,26 +36,5 @@ impl CachingDisk {
             power: _,
         } = self;
         image
-    }
-
-    /// The blocks of the disk.
-    pub fn blocks(&self) -> u64
-        ensures { result ≡ size (state_of self.now) }
-    {
-        self.blocks
-    }
-
-    /// The unreadable blocks that were met, up to 2^32 - 1.
-    pub fn errors(&self) -> u32
-        ensures { result ≡ (state_of self.now).machine.errors }
-    {
-        self.power.errors
-    }
-
-    /// The commands that were taken, up to 2^64 - 1.
-    pub fn orders(&self) -> u64
-        ensures { result ≡ (state_of self.now).orders }
-    {
-        self.power.orders
     }
 }
