@@ -1,19 +1,10 @@
 -- What a write of a cell of one side leaves of both.
-use Rattle.std.proofs.Common.{◌≡◌, ℕ, ◌+◌, ◌*◌, ◌<◌, ◌≤◌, Bool, true, false, cond, ◌&&◌, eqb, ◌⊎◌, List, length, set, ap, ◌∙◌, inl, inr, arith}
-use Rattle.std.proofs.lemmas.Bool.Decides.{nat_tests, eqb_tells}
+use Rattle.std.proofs.Common.{◌≡◌, ℕ, ◌+◌, ◌*◌, ◌<◌, ◌≤◌, true, false, eqb, ◌⊎◌, List, length, set, ap, ◌∙◌, inl, inr, arith}
+use Rattle.std.proofs.lemmas.Bool.Decides.{eqb_tells}
 use Rattle.ata.specs.Machine.{bytes}
-use Rattle.disk.specs.Cells.{inside, with_cell}
-use Rattle.disk.proofs.Cells.{inside_true}
+use Rattle.disk.specs.Cells.{with_cell}
 use Rattle.disk.proofs.Images.{apart, contents_write, contents_apart}
 use Rattle.caching.specs.Sides.{faces, media}
-
--- the write of one cell that lies inside
-pub write_done : (image new xs : List ℕ) (at : ℕ) (v : Bool) → at + 513 ≤ length image → length xs ≡ 512 → v ≡ (inside image at && eqb (length xs) 512) → new ≡ cond v (with_cell image at xs) image → new ≡ with_cell image at xs
-write_done image new xs at v h l r e =
-    let i = inside_true image at h in
-    let j : eqb (length xs) 512 ≡ true = grind (arith, nat_tests) in
-    let t : v ≡ true = r ∙ ap (λ (x : Bool). x && eqb (length xs) 512) i ∙ j in
-    e ∙ ap (λ (x : Bool). cond x (with_cell image at xs) image) t
 
 -- a face and a medium share no byte
 between : (k b : ℕ) → (1026 * k + 0 + 513 ≤ 1026 * b + 513) ⊎ (1026 * b + 513 + 513 ≤ 1026 * k + 0)

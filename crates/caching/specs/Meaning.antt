@@ -1,5 +1,5 @@
 -- What the caching disk is as a drive: a face and a medium of each block, 48-bit commands, a cache and, as chosen, the write through it.
-use Rattle.std.specs.Prelude.{◌≡◌, ℕ, ◌/◌, min, Bool, true, cond, List, [], length, vec_items, Ok, Err}
+use Rattle.std.specs.Prelude.{ℕ, ◌/◌, min, Bool, true, cond, List, length, vec_items}
 use Rattle.ata.specs.Machine.{Store, Machine}
 use Rattle.ata.specs.Commands.{State}
 use Rattle.disk.specs.declared.words.Claims.{Claims}

@@ -1,5 +1,5 @@
 -- The caching disk is a sound disk over an image.
-use Rattle.std.specs.Prelude.{◌≡◌, ℕ, refl}
+use Rattle.std.specs.Prelude.{refl}
 use Rattle.std.proofs.Common.{sym, ◌∙◌, arith}
 use Rattle.disk.proofs.Images.{length_contents, contents_sectors}
 use Rattle.image_disk.specs.Sound.{Sound}

@@ -1,5 +1,5 @@
 -- A disk over an image is a drive.
-use Rattle.std.proofs.Common.{◌≡◌, ℕ, ◌≤◌, Bool, true, false, ◌&&◌, refl, sym, ap, ◌∙◌, subst, arith}
+use Rattle.std.proofs.Common.{◌≡◌, ℕ, ◌≤◌, Bool, true, false, ◌&&◌, refl, sym, ◌∙◌, subst}
 use Rattle.ata.specs.Words.{count_limit}
 use Rattle.ata.specs.Commands.{Formed}
 use Rattle.disk.proofs.Decoded.{words_long, wide_for, cached_for, through_for, cache_off_for, blocks_for}

@@ -1,11 +1,13 @@
 -- A step once its power is asked for: with it the step is acted, without it the disk is dark.
-use Rattle.std.proofs.Common.{◌≡◌, ℕ, zero, suc, Bool, true, false, cond, [], Some, None, Option, refl, sym, ap, ◌∙◌, arith, Ok, Err}
+use Rattle.std.proofs.Common.{◌≡◌, ℕ, zero, suc, Bool, true, false, cond, List, [], Some, None, Option, refl, sym, ap, ◌∙◌, arith, Ok, Err}
 use Rattle.ata.specs.declared.answer.Stop.TheVariants.{Unreadable, Cut}
-use Rattle.ata.specs.Machine.{End, Step, idle_step, step, act, ends}
+use Rattle.ata.specs.Machine.{End, Step, read_step, verify_step, idle_step, step, act, ends, bytes_of_read}
+use Rattle.disk.specs.Cells.{readable}
 use Rattle.disk.specs.Powers.{lasts, spent}
 use Rattle.disk.specs.Quiet.{still}
+use Rattle.disk.proofs.Acts.{read_done, read_stopped, verify_done, verify_stopped}
 use Rattle.disk.proofs.Steps.{step_lasts, step_fails}
-use Rattle.image_disk.specs.Held.{Held, machine_in, with_power, faded, one_error_on, power_taken, had_power}
+use Rattle.image_disk.specs.Held.{Held, machine_in, with_power, faded, block_in, one_error_on, power_taken, had_power, put}
 
 -- a Result that says whether there was power
 there_was : (v : Bool) → ◌≡◌ {A = End} (cond v (Ok tt) (Err Cut)) (Ok tt) → v ≡ true
@@ -43,9 +45,16 @@ lit_on h k w e = ap (λ (j : Held). j.power.lit) e ∙ by h.power.left (there_wa
     by (Some zero) t = let z : ◌≡◌ {A = ℕ} 0 1 = cc in absurd (omega arith)
     by (Some (suc n)) t = refl
 
--- an unreadable block, once it is counted
-pub stopped_at : (h k : Held) (x : Step) (b : ℕ) → k ≡ one_error_on h → act x h.power.left (machine_in h) ≡ ends (Err (Unreadable b)) [] (machine_in (one_error_on h)) → act x h.power.left (machine_in h) ≡ ends (Err (Unreadable b)) [] (machine_in k)
-stopped_at h k x b e a = a ∙ ap (λ (j : Held). ends (Err (Unreadable b)) [] (machine_in j)) (sym e)
+-- a block that was looked at, and is counted if it cannot be read
+pub read_met : (k m : Held) (b : ℕ) (v : Bool) (z : End) (was new : List ℕ) → v ≡ readable (block_in k b) → new ≡ cond v (bytes_of_read (block_in k b)) was → z ≡ cond v (Ok tt) (Err (Unreadable b)) → m ≡ cond v k (one_error_on k) → act (read_step b) k.power.left (machine_in k) ≡ ends z (put z new) (machine_in m)
+read_met k m b true z was new r g e f =
+    read_done (machine_in k) b (block_in k b) refl (sym r) ∙ (λ i. ends (sym e i) (put (sym e i) (sym g i)) (machine_in (sym f i)))
+read_met k m b false z was new r g e f =
+    read_stopped (machine_in k) b (block_in k b) refl (sym r) ∙ (λ i. ends (sym e i) (put (sym e i) new) (machine_in (sym f i)))
+
+pub verify_met : (k m : Held) (b : ℕ) (v : Bool) (z : End) → v ≡ readable (block_in k b) → z ≡ cond v (Ok tt) (Err (Unreadable b)) → m ≡ cond v k (one_error_on k) → act (verify_step b) k.power.left (machine_in k) ≡ ends z [] (machine_in m)
+verify_met k m b true z r e f = verify_done (machine_in k) b (block_in k b) refl (sym r) ∙ (λ i. ends (sym e i) [] (machine_in (sym f i)))
+verify_met k m b false z r e f = verify_stopped (machine_in k) b (block_in k b) refl (sym r) ∙ (λ i. ends (sym e i) [] (machine_in (sym f i)))
 
 -- a step that only takes power
 pub idles : (h k : Held) (z : End) → z ≡ had_power h → k ≡ power_taken h → step still idle_step (machine_in h) ≡ ends z [] (machine_in k)

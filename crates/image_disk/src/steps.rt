@@ -1,14 +1,26 @@
 //! One step of a disk, which takes one step's power.
 
-ghost use Rattle.std.specs.Prelude.{◌≡◌, ◌<◌, true, [], length, Ok, Err};
+ghost use Rattle.std.specs.Prelude.{◌≡◌, ◌<◌, true, [], length, if◌then◌else◌, Ok, Err};
 ghost use Rattle.ata.specs.Machine.{step, ends, read_step, verify_step, write_step, flush_step, cache_step, idle_step};
 ghost use Rattle.ata.specs.Machine.{bytes as holding};
 ghost use Rattle.ata.specs.declared.answer.Stop.TheVariants.{Unreadable};
 ghost use Rattle.disk.specs.Quiet.{still};
-ghost use Rattle.image_disk.specs.Held.{machine_in, Kept, put, Untouched};
+ghost use Rattle.image_disk.specs.Held.{machine_in, one_error_on, Kept, put, Untouched};
 
 use crate::kind::ImageDisk;
 use ata::Stop;
+
+/// A block that cannot be read is counted, and ends its command.
+fn met<D: ImageDisk>(disk: &mut D, block: u64, readable: bool) -> Result<(), Stop>
+    ensures ends { result ≡ (if readable then Ok tt else Err (Unreadable block)) }
+    ensures after { D.held disk.new ≡ (if readable then D.held disk.old else one_error_on (D.held disk.old)) }
+{
+    if readable {
+        return Ok(());
+    }
+    disk.count_error();
+    Err(Stop::Unreadable(block))
+}
 
 /// Reads a block into the 512 bytes of `into`.
 pub(crate) fn read_step<D: ImageDisk>(disk: &mut D, block: u64, into: &mut [u8]) -> Result<(), Stop>
@@ -18,11 +30,8 @@ pub(crate) fn read_step<D: ImageDisk>(disk: &mut D, block: u64, into: &mut [u8])
     ensures kept { Kept (D.held disk.old) (D.held disk.new) }
 {
     disk.take_power()?;
-    if !disk.read_block(block, into) {
-        disk.count_error();
-        return Err(Stop::Unreadable(block));
-    }
-    Ok(())
+    let readable = disk.read_block(block, into);
+    met(disk, block, readable)
 }
 
 /// Looks whether a block can be read.
@@ -32,11 +41,8 @@ pub(crate) fn verify_step<D: ImageDisk>(disk: &mut D, block: u64) -> Result<(), 
     ensures kept { Kept (D.held disk.old) (D.held disk.new) }
 {
     disk.take_power()?;
-    if !disk.is_readable(block) {
-        disk.count_error();
-        return Err(Stop::Unreadable(block));
-    }
-    Ok(())
+    let readable = disk.is_readable(block);
+    met(disk, block, readable)
 }
 
 /// Writes the 512 bytes of `data` to a block of a lit disk; the block can then be read.

@@ -1,5 +1,5 @@
 -- What the plain disk is as a drive: its medium is what a read gives, and it claims nothing.
-use Rattle.std.specs.Prelude.{◌≡◌, ℕ, ◌/◌, min, false, List, [], length, vec_items, Ok, Err}
+use Rattle.std.specs.Prelude.{ℕ, ◌/◌, min, false, List, length, vec_items}
 use Rattle.ata.specs.Machine.{Store, Machine}
 use Rattle.ata.specs.Commands.{State}
 use Rattle.disk.specs.declared.words.Claims.{Claims}

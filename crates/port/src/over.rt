@@ -1,33 +1,26 @@
 //! The port as a drive: longer commands are aborted without the drive hearing of them, all else is the drive's.
 
 ghost use Rattle.std.specs.Prelude.{◌≡◌, ◌<◌, ◌≤◌, ◌&&◌, nat_lt};
-ghost use Rattle.ata.specs.Commands.{named};
 ghost use Rattle.ata.specs.Exchange.{Agrees};
 ghost use Rattle.port.specs.Limits.{limited, brought_in, names};
 ghost use Rattle.std.proofs.Common.{rules};
 
 use crate::limit::Port;
 use ata::{Answer, AtaCommand, Drive, TaskFile};
-use disk::ABORTED;
-
-fn counted(limit: u32, count: u16) -> u32
-    ensures { result ≡ named limit count }
-{
-    if count == 0 { limit } else { count as u32 }
-}
+use disk::{ABORTED, blocks_named};
 
 // How many blocks a command names.
-fn blocks_named(task: TaskFile) -> u32
+fn blocks_moved(task: TaskFile) -> u32
     ensures { result ≡ names task.command task.count }
 {
     match task.command {
-        AtaCommand::ReadDma | AtaCommand::WriteDma | AtaCommand::ReadVerify => counted(
-            256, task.count,
+        AtaCommand::ReadDma | AtaCommand::WriteDma | AtaCommand::ReadVerify => blocks_named(
+            task.count, 256,
         ),
         AtaCommand::ReadDmaExt
         | AtaCommand::WriteDmaExt
         | AtaCommand::WriteDmaFuaExt
-        | AtaCommand::ReadVerifyExt => counted(65536, task.count),
+        | AtaCommand::ReadVerifyExt => blocks_named(task.count, 65536),
         _ => 0,
     }
 }
@@ -40,7 +33,7 @@ impl<D: Drive> Port<D> {
     {
         Port {
             inner,
-            limit: limit.max(1).min(65536),
+            limit: limit.clamp(1, 65536),
         }
     }
 
@@ -56,7 +49,7 @@ impl<D: Drive> Port<D> {
     fn stops(&self, task: TaskFile) -> bool
         ensures { result ≡ ((D.Drive.meaning self.now.inner).machine.lit && nat_lt self.now.limit (names task.command task.count)) }
     {
-        self.inner.is_lit() && blocks_named(task) > self.limit
+        self.inner.is_lit() && blocks_moved(task) > self.limit
     }
 }
 

@@ -1,7 +1,8 @@
 use Rattle.std.proofs.Common.{◌≡◌, ◌+◌, ◌*◌, ◌≤◌, Bool, cond, List, length, set, sym, ap, ◌∙◌, arith}
 use Rattle.ata.specs.Machine.{Content, bytes}
 use Rattle.caching.specs.Sides.{media}
-use Rattle.caching.proofs.Writes.{write_done, face_faces, face_media, medium_media, medium_faces}
+use Rattle.disk.proofs.Blocks.{cell_written}
+use Rattle.caching.proofs.Writes.{face_faces, face_media, medium_media, medium_faces}
 use Rattle.caching.proofs.sides.write_block.Goals as goal
 
 pub returns-then-deep : goal.returns-then-deep
@@ -13,9 +14,9 @@ returns-then-deep c =
     let two = c.write_cell-then-deep.new.image in
     let l : 1026 * b + 1026 ≤ length image = omega arith in
     let w : length xs ≡ 512 = omega arith in
-    let e = write_done image one xs (1026 * b + 513) c.write_cell.result (omega arith) w c.write_cell.ensures.was c.write_cell.ensures.content in
+    let e = cell_written image one xs (1026 * b + 513) c.write_cell.result (omega arith) w c.write_cell.ensures.was c.write_cell.ensures.content in
     let k : 1026 * b + 1026 ≤ length one = omega arith in
-    let f = write_done one two xs (1026 * b + 0) c.write_cell-then-deep.result (omega arith) w c.write_cell-then-deep.ensures.was c.write_cell-then-deep.ensures.content in
+    let f = cell_written one two xs (1026 * b + 0) c.write_cell-then-deep.result (omega arith) w c.write_cell-then-deep.ensures.was c.write_cell-then-deep.ensures.content in
     record {
       face = λ n h. medium_faces n one two xs b k w f ∙ face_faces n image one xs b h l w e;
       medium = λ n h.
@@ -31,7 +32,7 @@ returns-else-deep c =
     let one = c.write_cell.new.image in
     let l : 1026 * b + 1026 ≤ length image = omega arith in
     let w : length xs ≡ 512 = omega arith in
-    let e = write_done image one xs (1026 * b + 513) c.write_cell.result (omega arith) w c.write_cell.ensures.was c.write_cell.ensures.content in
+    let e = cell_written image one xs (1026 * b + 513) c.write_cell.result (omega arith) w c.write_cell.ensures.was c.write_cell.ensures.content in
     record {
       face = λ n h. face_faces n image one xs b h l w e;
       medium = λ n h.
