@@ -2,6 +2,7 @@
 use Rattle.std.specs.Prelude.{◌≡◌, ℕ, Bool, true, false, cond, not, ◌&&◌, ◌||◌, List, slice_set, refl}
 use Rattle.std.proofs.Common.{sym, ◌∙◌, ap, arith}
 use Rattle.ata.specs.Machine.{Content}
+use Rattle.disk.specs.Powers.{lit_of}
 use Rattle.disk.proofs.Sets.{untruncated}
 use Rattle.caching.specs.Sides.{faces, media}
 use Rattle.caching.specs.Meaning.{image_of}
@@ -14,7 +15,7 @@ pub dark_waits : (on lit : Bool) → lit ≡ false → (on && lit) ≡ false
 dark_waits true lit h = h
 dark_waits false lit h = refl
 
-pub level_of : (d : CachingDisk) → (d.caching && d.power.lit) ≡ false → media d.blocks (image_of d) ≡ faces d.blocks (image_of d)
+pub level_of : (d : CachingDisk) → (d.caching && lit_of d.power.supply) ≡ false → media d.blocks (image_of d) ≡ faces d.blocks (image_of d)
 level_of d h = untruncated (media d.blocks (image_of d)) (faces d.blocks (image_of d)) (d.level h)
 
 -- the two sides of an image after a write to block b

@@ -2,6 +2,7 @@
 
 ghost use Rattle.std.specs.Prelude.{◌≡◌, ◌/◌, ◌^◌, ◌<◌, min, false, ◌&&◌, vec_len};
 ghost use Rattle.disk.specs.Cells.{contents};
+ghost use Rattle.disk.specs.Powers.{lit_of};
 
 use disk::Power;
 
@@ -17,5 +18,5 @@ pub struct CachingDisk {
     ghost whole: { blocks ≡ min (vec_len image / 1026) 268435455 },
     ghost errors_fit: { power.errors < 2 ^ 32 },
     ghost orders_fit: { power.orders < 2 ^ 64 },
-    ghost level: { (caching && power.lit) ≡ false → ∥ contents 1026 0 blocks image.items ≡ contents 1026 513 blocks image.items ∥₁ },
+    ghost level: { (caching && lit_of power.supply) ≡ false → ∥ contents 1026 0 blocks image.items ≡ contents 1026 513 blocks image.items ∥₁ },
 }

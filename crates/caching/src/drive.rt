@@ -23,7 +23,7 @@ impl Drive for CachingDisk {
     }
 
     fn is_lit(&self) -> bool {
-        self.power.lit
+        self.power.is_lit()
     }
 
     fn no_data(&mut self, task: TaskFile) -> Answer {
@@ -47,7 +47,7 @@ impl Drive for CachingDisk {
     }
 
     fn back(&mut self) {
-        if self.power.lit {
+        if self.power.is_lit() {
             return;
         }
         self.caching = true;

@@ -14,6 +14,6 @@ pub use answer::{ABORTED, answer_for};
 pub use cell::{BLOCK, CELL, cell_readable, read_cell, write_cell};
 pub use copy::copy_cell;
 pub use order::{Order, blocks_named, order_of};
-pub use power::Power;
+pub use power::{Power, Supply};
 pub use size::whole_blocks;
 pub use words::{Claims, identify_words};

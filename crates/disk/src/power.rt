@@ -2,15 +2,22 @@
 
 ghost use Rattle.std.specs.Prelude.{◌≡◌, if◌then◌else◌, Ok, Err};
 ghost use Rattle.ata.specs.declared.answer.Stop.TheVariants.{Cut};
-ghost use Rattle.disk.specs.Powers.{full, lasts, spent, order_counted, error_counted, cut_after, restored};
+ghost use Rattle.disk.specs.Powers.{full, lasts, lit_of, spent, order_counted, error_counted, cut_after, restored};
 
 use ata::Stop;
 
-/// A lit disk has power for as many steps as are left, or for ever where none is said.
+/// How long power lasts: for ever, for so many steps, or it is gone and the disk is dark.
+#[derive(Clone, Copy)]
+pub enum Supply {
+    Lasting,
+    Steps(u32),
+    Gone,
+}
+
+/// The power of a disk, the unreadable blocks that it met, and the commands that it took.
 #[derive(Clone, Copy)]
 pub struct Power {
-    pub lit: bool,
-    pub left: Option<u32>,
+    pub supply: Supply,
     pub errors: u32,
     pub orders: u64,
 }
@@ -21,26 +28,31 @@ impl Power {
         ensures { result ≡ full }
     {
         Power {
-            lit: true,
-            left: None,
+            supply: Supply::Lasting,
             errors: 0,
             orders: 0,
         }
     }
 
+    pub fn is_lit(&self) -> bool
+        ensures { result ≡ lit_of self.now.supply }
+    {
+        !matches!(self.supply, Supply::Gone)
+    }
+
     /// Takes one step's power, where there is any.
     pub fn tick(&mut self) -> Result<(), Stop>
-        ensures had { result ≡ (if lasts self.old.left then Ok tt else Err Cut) }
-        ensures after { self.new ≡ spent self.old.left self.old }
+        ensures had { result ≡ (if lasts self.old.supply then Ok tt else Err Cut) }
+        ensures after { self.new ≡ spent self.old }
     {
-        match self.left {
-            None => Ok(()),
-            Some(0) => {
-                self.lit = false;
+        match self.supply {
+            Supply::Lasting => Ok(()),
+            Supply::Steps(0) | Supply::Gone => {
+                self.supply = Supply::Gone;
                 Err(Stop::Cut)
             }
-            Some(n) => {
-                self.left = Some(n - 1);
+            Supply::Steps(n) => {
+                self.supply = Supply::Steps(n - 1);
                 Ok(())
             }
         }
@@ -64,8 +76,8 @@ impl Power {
     pub fn cut(&mut self, steps: u32)
         ensures { self.new ≡ cut_after steps self.old }
     {
-        if self.lit {
-            self.left = Some(steps);
+        if self.is_lit() {
+            self.supply = Supply::Steps(steps);
         }
     }
 
@@ -73,9 +85,8 @@ impl Power {
     pub fn restore(&mut self)
         ensures { self.new ≡ restored self.old }
     {
-        if !self.lit {
-            self.lit = true;
-            self.left = None;
+        if !self.is_lit() {
+            self.supply = Supply::Lasting;
         }
     }
 }

@@ -1,9 +1,9 @@
 -- A step once its power is asked for: with it the step is acted, without it the disk is dark.
-use Rattle.std.proofs.Common.{◌≡◌, ℕ, zero, suc, Bool, true, false, cond, List, [], Some, None, Option, refl, sym, ap, ◌∙◌, arith, Ok, Err}
+use Rattle.std.proofs.Common.{◌≡◌, ℕ, Bool, true, false, cond, List, [], refl, sym, ap, ◌∙◌, arith, Ok, Err}
 use Rattle.ata.specs.declared.answer.Stop.TheVariants.{Unreadable, Cut}
 use Rattle.ata.specs.Machine.{End, Step, read_step, verify_step, idle_step, step, act, ends, bytes_of_read}
 use Rattle.disk.specs.Cells.{readable}
-use Rattle.disk.specs.Powers.{lasts, spent}
+use Rattle.disk.specs.Powers.{left_of, lasts, spent}
 use Rattle.disk.specs.Quiet.{still}
 use Rattle.disk.proofs.Acts.{read_done, read_stopped, verify_done, verify_stopped}
 use Rattle.disk.proofs.Steps.{step_lasts, step_fails}
@@ -18,41 +18,32 @@ there_was_none : (v : Bool) (z : End) → z ≡ cond v (Ok tt) (Err Cut) → (z 
 there_was_none true z e w = absurd (w e)
 there_was_none false z e w = refl
 
-pub with_power_taken : (h k : Held) → had_power h ≡ Ok tt → k ≡ power_taken h → k ≡ with_power (spent h.power.left h.power) h
-with_power_taken h k w e = e ∙ ap (λ (v : Bool). record { claims = h.claims; store = cond v h.store (faded h.store); power = spent h.power.left h.power }) (there_was (lasts h.power.left) w)
+pub with_power_taken : (h k : Held) → had_power h ≡ Ok tt → k ≡ power_taken h → k ≡ with_power (spent h.power) h
+with_power_taken h k w e = e ∙ ap (λ (v : Bool). record { claims = h.claims; store = cond v h.store (faded h.store); power = spent h.power }) (there_was (lasts h.power.supply) w)
 
-pub goes_on : (h k : Held) (x : Step) → had_power h ≡ Ok tt → k ≡ power_taken h → step still x (machine_in h) ≡ act x k.power.left (machine_in k)
+pub goes_on : (h k : Held) (x : Step) → had_power h ≡ Ok tt → k ≡ power_taken h → step still x (machine_in h) ≡ act x (left_of k.power.supply) (machine_in k)
 goes_on h k x w e =
-    step_lasts h.store h.power (spent h.power.left h.power) x (there_was (lasts h.power.left) w) refl
-    ∙ ap (λ (j : Held). act x j.power.left (machine_in j)) (sym (with_power_taken h k w e))
+    step_lasts h.store h.power x (there_was (lasts h.power.supply) w)
+    ∙ ap (λ (j : Held). act x (left_of j.power.supply) (machine_in j)) (sym (with_power_taken h k w e))
 
 -- a step that is not done for want of power
 pub stops : (h k : Held) (x : Step) (z : End) → z ≡ had_power h → k ≡ power_taken h → (z ≡ Ok tt → ⊥) → step still x (machine_in h) ≡ ends z [] (machine_in k)
 stops h k x z r e w =
-    let f = there_was_none (lasts h.power.left) z r w in
+    let f = there_was_none (lasts h.power.supply) z r w in
     let cut : z ≡ Err Cut = r ∙ ap (λ (v : Bool). cond v (Ok tt) (Err Cut)) f in
-    let is : k ≡ record { claims = h.claims; store = faded h.store; power = spent h.power.left h.power } =
-    e ∙ ap (λ (v : Bool). record { claims = h.claims; store = cond v h.store (faded h.store); power = spent h.power.left h.power }) f in
-    step_fails h.store h.power (spent h.power.left h.power) x f refl
+    let is : k ≡ record { claims = h.claims; store = faded h.store; power = spent h.power } =
+    e ∙ ap (λ (v : Bool). record { claims = h.claims; store = cond v h.store (faded h.store); power = spent h.power }) f in
+    step_fails h.store h.power x f
     ∙ (λ i. ends (sym cut i) [] (machine_in (sym is i)))
 
--- taking power that is there leaves the disk lit
-pub lit_on : (h k : Held) → had_power h ≡ Ok tt → k ≡ power_taken h → k.power.lit ≡ h.power.lit
-lit_on h k w e = ap (λ (j : Held). j.power.lit) e ∙ by h.power.left (there_was (lasts h.power.left) w)
-  where
-    by : (l : Option ℕ) → lasts l ≡ true → (spent l h.power).lit ≡ h.power.lit
-    by None t = refl
-    by (Some zero) t = let z : ◌≡◌ {A = ℕ} 0 1 = cc in absurd (omega arith)
-    by (Some (suc n)) t = refl
-
 -- a block that was looked at, and is counted if it cannot be read
-pub read_met : (k m : Held) (b : ℕ) (v : Bool) (z : End) (was new : List ℕ) → v ≡ readable (block_in k b) → new ≡ cond v (bytes_of_read (block_in k b)) was → z ≡ cond v (Ok tt) (Err (Unreadable b)) → m ≡ cond v k (one_error_on k) → act (read_step b) k.power.left (machine_in k) ≡ ends z (put z new) (machine_in m)
+pub read_met : (k m : Held) (b : ℕ) (v : Bool) (z : End) (was new : List ℕ) → v ≡ readable (block_in k b) → new ≡ cond v (bytes_of_read (block_in k b)) was → z ≡ cond v (Ok tt) (Err (Unreadable b)) → m ≡ cond v k (one_error_on k) → act (read_step b) (left_of k.power.supply) (machine_in k) ≡ ends z (put z new) (machine_in m)
 read_met k m b true z was new r g e f =
     read_done (machine_in k) b (block_in k b) refl (sym r) ∙ (λ i. ends (sym e i) (put (sym e i) (sym g i)) (machine_in (sym f i)))
 read_met k m b false z was new r g e f =
     read_stopped (machine_in k) b (block_in k b) refl (sym r) ∙ (λ i. ends (sym e i) (put (sym e i) new) (machine_in (sym f i)))
 
-pub verify_met : (k m : Held) (b : ℕ) (v : Bool) (z : End) → v ≡ readable (block_in k b) → z ≡ cond v (Ok tt) (Err (Unreadable b)) → m ≡ cond v k (one_error_on k) → act (verify_step b) k.power.left (machine_in k) ≡ ends z [] (machine_in m)
+pub verify_met : (k m : Held) (b : ℕ) (v : Bool) (z : End) → v ≡ readable (block_in k b) → z ≡ cond v (Ok tt) (Err (Unreadable b)) → m ≡ cond v k (one_error_on k) → act (verify_step b) (left_of k.power.supply) (machine_in k) ≡ ends z [] (machine_in m)
 verify_met k m b true z r e f = verify_done (machine_in k) b (block_in k b) refl (sym r) ∙ (λ i. ends (sym e i) [] (machine_in (sym f i)))
 verify_met k m b false z r e f = verify_stopped (machine_in k) b (block_in k b) refl (sym r) ∙ (λ i. ends (sym e i) [] (machine_in (sym f i)))
 

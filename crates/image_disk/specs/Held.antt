@@ -48,12 +48,12 @@ abbrev pub power_taken : Held → Held
 power_taken h =
     record {
       claims = h.claims;
-      store = cond (lasts h.power.left) h.store (faded h.store);
-      power = spent h.power.left h.power;
+      store = cond (lasts h.power.supply) h.store (faded h.store);
+      power = spent h.power;
     }
 
 abbrev pub had_power : Held → End
-had_power h = cond (lasts h.power.left) (Ok tt) (Err Stop.Cut)
+had_power h = cond (lasts h.power.supply) (Ok tt) (Err Stop.Cut)
 
 -- A step that has its power does this to the blocks.
 abbrev pub after : Step → Held → Held

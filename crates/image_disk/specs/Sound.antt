@@ -3,6 +3,7 @@ use Rattle.std.specs.Prelude.{◌≡◌, ℕ, ◌^◌, ◌<◌, ◌≤◌, true,
 use Rattle.ata.specs.Machine.{unreadable}
 use Rattle.ata.specs.Words.{count_limit}
 use Rattle.ata.specs.Commands.{Sector}
+use Rattle.disk.specs.Powers.{lit_of}
 use Rattle.image_disk.specs.Held.{Held}
 
 pub record Sound (most : ℕ) (h : Held) : Type 0 where
@@ -15,5 +16,5 @@ pub record Sound (most : ℕ) (h : Held) : Type 0 where
   pub level : length h.store.medium ≡ length h.store.face
   pub cache_claimed : h.store.caching ≡ true → h.claims.cache ≡ true
   pub off : h.store.caching ≡ false → h.store.medium ≡ h.store.face
-  pub dark : h.power.lit ≡ false → h.store.medium ≡ h.store.face
+  pub dark : lit_of h.power.supply ≡ false → h.store.medium ≡ h.store.face
   pub sectors : (k : ℕ) → Sector (slice_index_or h.store.face k unreadable)

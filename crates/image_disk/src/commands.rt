@@ -7,6 +7,7 @@ ghost use Rattle.ata.specs.Commands.{identify as Identifying, read as Reading, v
 ghost use Rattle.disk.specs.Claimed.{words_for};
 ghost use Rattle.disk.specs.Orders.{meant, Bare, switches};
 ghost use Rattle.disk.specs.Quiet.{quiet};
+ghost use Rattle.disk.specs.Powers.{lit_of};
 ghost use Rattle.image_disk.specs.Held.{state_in};
 
 use crate::kind::ImageDisk;
@@ -43,7 +44,7 @@ pub(crate) fn write<D: ImageDisk>(
     count: u32,
     from: &[u8],
 ) -> Answer
-    requires { (D.held disk.old).power.lit ≡ true }
+    requires { lit_of (D.held disk.old).power.supply ≡ true }
     ensures { gives result (state_in D.MOST (D.held disk.new)) [] ≡ obeys quiet (state_in D.MOST (D.held disk.old)) block (sends from.now) (Writing through count) }
 {
     let short = from.len() < BLOCK * count as usize;

@@ -4,6 +4,7 @@ ghost use Rattle.std.specs.Prelude.{◌≡◌, ℕ, ◌<◌, true, length, if◌
 ghost use Rattle.ata.specs.Machine.{write_step, flush_step, cache_step, bytes_of_read};
 ghost use Rattle.ata.specs.Machine.{bytes as holding};
 ghost use Rattle.disk.specs.Cells.{readable};
+ghost use Rattle.disk.specs.Powers.{lit_of};
 ghost use Rattle.image_disk.specs.Held.{Held, machine_in, block_in, one_order_on, one_error_on, power_taken, had_power, after};
 ghost use Rattle.image_disk.specs.Sound.{Sound};
 
@@ -55,7 +56,7 @@ pub trait ImageDisk {
     fn write_block(&mut self, through: bool, block: u64, data: &[u8])
         requires within { block < (held self.old).claims.blocks }
         requires sized { length «data».now ≡ 512 }
-        requires lit { (held self.old).power.lit ≡ true }
+        requires lit { lit_of (held self.old).power.supply ≡ true }
         ensures { held self.new ≡ after (write_step through block (holding «data».now)) (held self.old) };
 
     /// Puts what waits in a cache on the medium.
@@ -70,9 +71,9 @@ pub trait ImageDisk {
     ghost sound: { (x : Self) → Sound MOST (held x) };
 
     final fn has_power(&self) -> bool
-        ensures { result ≡ (held self.now).power.lit }
+        ensures { result ≡ lit_of (held self.now).power.supply }
     {
-        self.power().lit
+        self.power().is_lit()
     }
 
     /// The blocks of the disk.

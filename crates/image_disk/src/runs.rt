@@ -5,6 +5,7 @@ ghost use Rattle.ata.specs.Machine.{steps, ends};
 ghost use Rattle.ata.specs.Commands.{reads, verifies, writes};
 ghost use Rattle.ata.specs.Commands.{blocks as blocksOf};
 ghost use Rattle.disk.specs.Quiet.{quiet, Filled};
+ghost use Rattle.disk.specs.Powers.{lit_of};
 ghost use Rattle.image_disk.specs.Held.{machine_in, Kept};
 
 use crate::kind::ImageDisk;
@@ -52,7 +53,7 @@ pub(crate) fn run_writes<D: ImageDisk>(
 ) -> Result<(), Stop>
     requires within { block + count ≤ (D.held disk.old).claims.blocks }
     requires sized { 512 * count ≤ length from.now }
-    requires lit { (D.held disk.old).power.lit ≡ true }
+    requires lit { lit_of (D.held disk.old).power.supply ≡ true }
     ensures ran { steps quiet (writes through block (blocksOf count from.now)) (machine_in (D.held disk.old)) ≡ ends result [] (machine_in (D.held disk.new)) }
     ensures kept { Kept (D.held disk.old) (D.held disk.new) }
 {

@@ -5,6 +5,7 @@ ghost use Rattle.ata.specs.Machine.{step, ends, read_step, verify_step, write_st
 ghost use Rattle.ata.specs.Machine.{bytes as holding};
 ghost use Rattle.ata.specs.declared.answer.Stop.TheVariants.{Unreadable};
 ghost use Rattle.disk.specs.Quiet.{still};
+ghost use Rattle.disk.specs.Powers.{lit_of};
 ghost use Rattle.image_disk.specs.Held.{machine_in, one_error_on, Kept, put, Untouched};
 
 use crate::kind::ImageDisk;
@@ -54,9 +55,9 @@ pub(crate) fn write_step<D: ImageDisk>(
 ) -> Result<(), Stop>
     requires within { block < (D.held disk.old).claims.blocks }
     requires sized { length «data».now ≡ 512 }
-    requires lit { (D.held disk.old).power.lit ≡ true }
+    requires lit { lit_of (D.held disk.old).power.supply ≡ true }
     ensures stepped { step still (write_step through block (holding «data».now)) (machine_in (D.held disk.old)) ≡ ends result [] (machine_in (D.held disk.new)) }
-    ensures lit { result ≡ Ok tt → (D.held disk.new).power.lit ≡ true }
+    ensures lit { result ≡ Ok tt → lit_of (D.held disk.new).power.supply ≡ true }
     ensures kept { Kept (D.held disk.old) (D.held disk.new) }
 {
     disk.take_power()?;

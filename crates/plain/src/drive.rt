@@ -23,7 +23,7 @@ impl Drive for PlainDisk {
     }
 
     fn is_lit(&self) -> bool {
-        self.power.lit
+        self.power.is_lit()
     }
 
     fn no_data(&mut self, task: TaskFile) -> Answer {

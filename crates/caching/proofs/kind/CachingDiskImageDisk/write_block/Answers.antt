@@ -3,6 +3,7 @@ use mathlib.Core.Logic.{∥∥₁_map}
 use Rattle.std.specs.Vec.{with_items}
 use Rattle.std.proofs.lemmas.List.{with_items_is}
 use Rattle.ata.specs.Machine.{Content, bytes}
+use Rattle.disk.specs.Powers.{lit_of}
 use Rattle.caching.specs.Sides.{media}
 use Rattle.caching.specs.Meaning.{claims_of, image_of}
 use Rattle.caching.specs.Levels.{faces_after, media_after, sinks_as, deep_where_off}
@@ -29,7 +30,7 @@ invariant_of-self c =
           ∥∥₁_map (d.level h)
           (λ l.
           medium
-          ∙ ap (λ (v : Bool). cond v (set (media n (image_of d)) b x) (media n (image_of d))) (deep_where_off c.args.through d.caching d.power.lit deep c.writes_deep-deep.ensures c.requires.lit h)
+          ∙ ap (λ (v : Bool). cond v (set (media n (image_of d)) b x) (media n (image_of d))) (deep_where_off c.args.through d.caching (lit_of d.power.supply) deep c.writes_deep-deep.ensures c.requires.lit h)
           ∙ ap (λ (z : List Content). set z b x) l ∙ sym face);
     }
 
