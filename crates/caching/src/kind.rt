@@ -7,7 +7,7 @@ ghost use Rattle.caching.specs.Sound.{sound_of};
 use crate::caching_disk::CachingDisk;
 use crate::sides::{FACE, MEDIUM, PAIR, copy_cells, write_block};
 use ata::Stop;
-use disk::{Claims, Power, cell_readable, read_cell};
+use disk::{Claims, Power, content_at};
 use image_disk::ImageDisk;
 
 impl CachingDisk {
@@ -63,12 +63,8 @@ impl ImageDisk for CachingDisk {
         Ok(())
     }
 
-    fn is_readable(&self, block: u64) -> bool {
-        cell_readable(self.image.as_slice(), PAIR * block as usize + FACE)
-    }
-
-    fn read_block(&self, block: u64, into: &mut [u8]) -> bool {
-        read_cell(self.image.as_slice(), PAIR * block as usize + FACE, into)
+    fn content(&self, block: u64) -> Option<&[u8]> {
+        content_at(self.image.as_slice(), PAIR * block as usize + FACE)
     }
 
     fn write_block(&mut self, through: bool, block: u64, data: &[u8]) {

@@ -1,8 +1,8 @@
 -- A block of an image: what a read or a write of its cell says of the contents.
-use Rattle.std.proofs.Common.{◌≡◌, ℕ, ◌+◌, ◌*◌, ◌<◌, ◌≤◌, Bool, true, false, cond, ◌&&◌, eqb, List, length, get_or, sym, ap, ◌∙◌, arith}
+use Rattle.std.proofs.Common.{◌≡◌, ℕ, ◌+◌, ◌*◌, ◌<◌, ◌≤◌, Bool, true, cond, ◌&&◌, eqb, List, length, get_or, sym, ap, ◌∙◌, arith}
 use Rattle.std.proofs.lemmas.Bool.Decides.{nat_tests}
-use Rattle.ata.specs.Machine.{Content, unreadable, bytes_of_read}
-use Rattle.disk.specs.Cells.{inside, cell_at, readable, with_cell, contents}
+use Rattle.ata.specs.Machine.{unreadable}
+use Rattle.disk.specs.Cells.{inside, cell_at, with_cell, contents}
 use Rattle.disk.proofs.Cells.{inside_true}
 use Rattle.disk.proofs.Images.{get_or_contents}
 
@@ -11,22 +11,6 @@ pub block_at : (stride offset n : ℕ) (image slice : List ℕ) (b at : ℕ) →
 block_at stride offset n image slice b at e h f =
     get_or_contents stride offset n image b unreadable h
     ∙ (λ i. cell_at (sym e i) (sym f i))
-
-and_true : (a b : Bool) → b ≡ true → (a && b) ≡ a
-and_true a b e = ap (λ (v : Bool). a && v) e ∙ right a
-  where
-    right : (a : Bool) → (a && true) ≡ a
-    right true = cc
-    right false = cc
-
--- a read of its cell, into a buffer that is long enough
-pub read_says : (c k : Content) (v : Bool) (l : ℕ) → c ≡ k → l ≡ 512 → v ≡ (readable k && eqb l 512) → v ≡ readable c
-read_says c k v l e h r =
-    let j : eqb l 512 ≡ true = grind (arith, nat_tests) in
-    r ∙ and_true (readable k) (eqb l 512) j ∙ ap readable (sym e)
-
-pub read_gives : (c k : Content) (v : Bool) (was new : List ℕ) → c ≡ k → new ≡ cond v (bytes_of_read k) was → new ≡ cond v (bytes_of_read c) was
-read_gives c k v was new e f = f ∙ ap (λ (x : Content). cond v (bytes_of_read x) was) (sym e)
 
 -- a write of one cell that lies inside
 pub cell_written : (image new xs : List ℕ) (at : ℕ) (v : Bool) → at + 513 ≤ length image → length xs ≡ 512 → v ≡ (inside image at && eqb (length xs) 512) → new ≡ cond v (with_cell image at xs) image → new ≡ with_cell image at xs

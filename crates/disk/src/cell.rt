@@ -1,8 +1,9 @@
 //! One cell of an image: a mark, 0 where the block can be read, and then 512 bytes of content.
 
-ghost use Rattle.std.specs.Prelude.{◌≡◌, ◌+◌, ◌&&◌, length, if◌then◌else◌, ◌==◌, nat_le};
-ghost use Rattle.ata.specs.Machine.{bytes_of_read};
-ghost use Rattle.disk.specs.Cells.{inside, cell_at, readable, with_cell};
+ghost use Rattle.std.specs.Prelude.{◌≡◌, ◌+◌, ◌&&◌, length, if◌then◌else◌, ◌==◌, nat_le, MatchOption};
+ghost use Rattle.ata.specs.Machine.{unreadable};
+ghost use Rattle.ata.specs.Machine.{bytes as holding};
+ghost use Rattle.disk.specs.Cells.{inside, cell_at, with_cell};
 
 /// The bytes of a block's content.
 pub const BLOCK: usize = 512;
@@ -17,29 +18,17 @@ pub(crate) fn lies_inside(size: usize, at: usize) -> bool
     size >= CELL && at <= size - CELL
 }
 
-/// Whether the cell at `at` can be read: it lies inside the image and its mark is 0.
-pub fn cell_readable(image: &[u8], at: usize) -> bool
-    ensures { result ≡ readable (cell_at image.now at) }
-{
-    lies_inside(image.len(), at) && image[at] == 0
-}
-
-/// Copies the content of the cell at `at` into `out`, of 512 bytes, if it can be read, and says whether it was.
-pub fn read_cell(image: &[u8], at: usize, out: &mut [u8]) -> bool
-    ensures was { result ≡ (readable (cell_at image.now at) && length out.old == 512) }
-    ensures content { out.new ≡ (if result then bytes_of_read (cell_at image.now at) else out.old) }
+/// The content of the cell at `at`, where it can be read: it lies inside the image and its mark is 0.
+pub fn content_at(image: &[u8], at: usize) -> Option<&[u8]>
+    ensures { MatchOption result (cell_at image.now at ≡ unreadable) (λ content. (cell_at image.now at ≡ holding content.now) × (length content.now ≡ 512)) }
 {
     if !lies_inside(image.len(), at) {
-        return false;
-    }
-    if out.len() != BLOCK {
-        return false;
+        return None;
     }
     if image[at] != 0 {
-        return false;
+        return None;
     }
-    out.copy_from_slice(&image[at + 1..at + CELL]);
-    true
+    Some(&image[at + 1..at + CELL])
 }
 
 /// Makes the cell at `at` readable, with `data` of 512 bytes, and says whether it could be done.

@@ -11,7 +11,7 @@ mod size;
 mod words;
 
 pub use answer::{ABORTED, answer_for};
-pub use cell::{BLOCK, CELL, cell_readable, read_cell, write_cell};
+pub use cell::{BLOCK, CELL, content_at, write_cell};
 pub use copy::copy_cell;
 pub use order::{Order, blocks_named, order_of};
 pub use power::{Power, Supply};

@@ -1,13 +1,12 @@
 -- A step once its power is asked for: with it the step is acted, without it the disk is dark.
 use Rattle.std.proofs.Common.{◌≡◌, ℕ, Bool, true, false, cond, List, [], refl, sym, ap, ◌∙◌, arith, Ok, Err}
 use Rattle.ata.specs.declared.answer.Stop.TheVariants.{Unreadable, Cut}
-use Rattle.ata.specs.Machine.{End, Step, read_step, verify_step, idle_step, step, act, ends, bytes_of_read}
-use Rattle.disk.specs.Cells.{readable}
+use Rattle.ata.specs.Machine.{End, Step, read_step, verify_step, idle_step, unreadable, bytes, step, act, ends}
 use Rattle.disk.specs.Powers.{left_of, lasts, spent}
 use Rattle.disk.specs.Quiet.{still}
 use Rattle.disk.proofs.Acts.{read_done, read_stopped, verify_done, verify_stopped}
 use Rattle.disk.proofs.Steps.{step_lasts, step_fails}
-use Rattle.image_disk.specs.Held.{Held, machine_in, with_power, faded, block_in, one_error_on, power_taken, had_power, put}
+use Rattle.image_disk.specs.Held.{Held, machine_in, with_power, faded, block_in, one_error_on, power_taken, had_power}
 
 -- a Result that says whether there was power
 there_was : (v : Bool) → ◌≡◌ {A = End} (cond v (Ok tt) (Err Cut)) (Ok tt) → v ≡ true
@@ -36,16 +35,18 @@ stops h k x z r e w =
     step_fails h.store h.power x f
     ∙ (λ i. ends (sym cut i) [] (machine_in (sym is i)))
 
--- a block that was looked at, and is counted if it cannot be read
-pub read_met : (k m : Held) (b : ℕ) (v : Bool) (z : End) (was new : List ℕ) → v ≡ readable (block_in k b) → new ≡ cond v (bytes_of_read (block_in k b)) was → z ≡ cond v (Ok tt) (Err (Unreadable b)) → m ≡ cond v k (one_error_on k) → act (read_step b) (left_of k.power.supply) (machine_in k) ≡ ends z (put z new) (machine_in m)
-read_met k m b true z was new r g e f =
-    read_done (machine_in k) b (block_in k b) refl (sym r) ∙ (λ i. ends (sym e i) (put (sym e i) (sym g i)) (machine_in (sym f i)))
-read_met k m b false z was new r g e f =
-    read_stopped (machine_in k) b (block_in k b) refl (sym r) ∙ (λ i. ends (sym e i) (put (sym e i) new) (machine_in (sym f i)))
+-- a block that can be read, and one that cannot and is counted
+pub block_read : (k : Held) (b : ℕ) (xs : List ℕ) → block_in k b ≡ bytes xs → act (read_step b) (left_of k.power.supply) (machine_in k) ≡ ends (Ok tt) xs (machine_in k)
+block_read k b xs e = read_done (machine_in k) b (bytes xs) e refl
 
-pub verify_met : (k m : Held) (b : ℕ) (v : Bool) (z : End) → v ≡ readable (block_in k b) → z ≡ cond v (Ok tt) (Err (Unreadable b)) → m ≡ cond v k (one_error_on k) → act (verify_step b) (left_of k.power.supply) (machine_in k) ≡ ends z [] (machine_in m)
-verify_met k m b true z r e f = verify_done (machine_in k) b (block_in k b) refl (sym r) ∙ (λ i. ends (sym e i) [] (machine_in (sym f i)))
-verify_met k m b false z r e f = verify_stopped (machine_in k) b (block_in k b) refl (sym r) ∙ (λ i. ends (sym e i) [] (machine_in (sym f i)))
+pub block_met : (k m : Held) (b : ℕ) → block_in k b ≡ unreadable → m ≡ one_error_on k → act (read_step b) (left_of k.power.supply) (machine_in k) ≡ ends (Err (Unreadable b)) [] (machine_in m)
+block_met k m b e f = read_stopped (machine_in k) b unreadable e refl ∙ ap (λ (j : Held). ends (Err (Unreadable b)) [] (machine_in j)) (sym f)
+
+pub block_verified : (k : Held) (b : ℕ) (xs : List ℕ) → block_in k b ≡ bytes xs → act (verify_step b) (left_of k.power.supply) (machine_in k) ≡ ends (Ok tt) [] (machine_in k)
+block_verified k b xs e = verify_done (machine_in k) b (bytes xs) e refl
+
+pub block_missed : (k m : Held) (b : ℕ) → block_in k b ≡ unreadable → m ≡ one_error_on k → act (verify_step b) (left_of k.power.supply) (machine_in k) ≡ ends (Err (Unreadable b)) [] (machine_in m)
+block_missed k m b e f = verify_stopped (machine_in k) b unreadable e refl ∙ ap (λ (j : Held). ends (Err (Unreadable b)) [] (machine_in j)) (sym f)
 
 -- a step that only takes power
 pub idles : (h k : Held) (z : End) → z ≡ had_power h → k ≡ power_taken h → step still idle_step (machine_in h) ≡ ends z [] (machine_in k)

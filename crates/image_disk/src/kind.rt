@@ -1,9 +1,8 @@
 //! What each kind of disk over an image says of itself, and does at a step.
 
-ghost use Rattle.std.specs.Prelude.{◌≡◌, ℕ, ◌<◌, true, length, if◌then◌else◌};
-ghost use Rattle.ata.specs.Machine.{write_step, flush_step, cache_step, bytes_of_read};
+ghost use Rattle.std.specs.Prelude.{◌≡◌, ℕ, ◌<◌, true, length, MatchOption};
+ghost use Rattle.ata.specs.Machine.{unreadable, write_step, flush_step, cache_step};
 ghost use Rattle.ata.specs.Machine.{bytes as holding};
-ghost use Rattle.disk.specs.Cells.{readable};
 ghost use Rattle.disk.specs.Powers.{lit_of};
 ghost use Rattle.image_disk.specs.Held.{Held, machine_in, block_in, one_order_on, one_error_on, power_taken, had_power, after};
 ghost use Rattle.image_disk.specs.Sound.{Sound};
@@ -42,15 +41,10 @@ pub trait ImageDisk {
         ensures had { result ≡ had_power (held self.old) }
         ensures after { held self.new ≡ power_taken (held self.old) };
 
-    fn is_readable(&self, block: u64) -> bool
+    /// The content of a block, where it can be read.
+    fn content(&self, block: u64) -> Option<&[u8]>
         requires { block < (held self.now).claims.blocks }
-        ensures { result ≡ readable (block_in (held self.now) block) };
-
-    /// Copies a block that can be read into the 512 bytes of `into`, and says whether it was one.
-    fn read_block(&self, block: u64, into: &mut [u8]) -> bool
-        requires { (block < (held self.now).claims.blocks) × (length into.old ≡ 512) }
-        ensures was { result ≡ readable (block_in (held self.now) block) }
-        ensures content { into.new ≡ (if result then bytes_of_read (block_in (held self.now) block) else into.old) };
+        ensures { MatchOption result (block_in (held self.now) block ≡ unreadable) (λ content. (block_in (held self.now) block ≡ holding content.now) × (length content.now ≡ 512)) };
 
     /// Puts the 512 bytes of `data` into a block of a lit disk.
     fn write_block(&mut self, through: bool, block: u64, data: &[u8])

@@ -1,6 +1,6 @@
 //! One step of a disk, which takes one step's power.
 
-ghost use Rattle.std.specs.Prelude.{◌≡◌, ◌<◌, true, [], length, if◌then◌else◌, Ok, Err};
+ghost use Rattle.std.specs.Prelude.{◌≡◌, ◌<◌, true, [], length, Ok, Err};
 ghost use Rattle.ata.specs.Machine.{step, ends, read_step, verify_step, write_step, flush_step, cache_step, idle_step};
 ghost use Rattle.ata.specs.Machine.{bytes as holding};
 ghost use Rattle.ata.specs.declared.answer.Stop.TheVariants.{Unreadable};
@@ -12,15 +12,12 @@ use crate::kind::ImageDisk;
 use ata::Stop;
 
 /// A block that cannot be read is counted, and ends its command.
-fn met<D: ImageDisk>(disk: &mut D, block: u64, readable: bool) -> Result<(), Stop>
-    ensures ends { result ≡ (if readable then Ok tt else Err (Unreadable block)) }
-    ensures after { D.held disk.new ≡ (if readable then D.held disk.old else one_error_on (D.held disk.old)) }
+fn unreadable<D: ImageDisk>(disk: &mut D, block: u64) -> Stop
+    ensures stops { result ≡ Unreadable block }
+    ensures counted { D.held disk.new ≡ one_error_on (D.held disk.old) }
 {
-    if readable {
-        return Ok(());
-    }
     disk.count_error();
-    Err(Stop::Unreadable(block))
+    Stop::Unreadable(block)
 }
 
 /// Reads a block into the 512 bytes of `into`.
@@ -31,8 +28,13 @@ pub(crate) fn read_step<D: ImageDisk>(disk: &mut D, block: u64, into: &mut [u8])
     ensures kept { Kept (D.held disk.old) (D.held disk.new) }
 {
     disk.take_power()?;
-    let readable = disk.read_block(block, into);
-    met(disk, block, readable)
+    match disk.content(block) {
+        Some(content) => {
+            into.copy_from_slice(content);
+            Ok(())
+        }
+        None => Err(unreadable(disk, block)),
+    }
 }
 
 /// Looks whether a block can be read.
@@ -42,8 +44,10 @@ pub(crate) fn verify_step<D: ImageDisk>(disk: &mut D, block: u64) -> Result<(), 
     ensures kept { Kept (D.held disk.old) (D.held disk.new) }
 {
     disk.take_power()?;
-    let readable = disk.is_readable(block);
-    met(disk, block, readable)
+    let Some(_) = disk.content(block) else {
+        return Err(unreadable(disk, block));
+    };
+    Ok(())
 }
 
 /// Writes the 512 bytes of `data` to a block of a lit disk; the block can then be read.

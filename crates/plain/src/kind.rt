@@ -5,7 +5,7 @@ ghost use Rattle.plain.specs.Sound.{sound_of};
 
 use crate::plain_disk::PlainDisk;
 use ata::Stop;
-use disk::{CELL, Claims, Power, cell_readable, read_cell, write_cell};
+use disk::{CELL, Claims, Power, content_at, write_cell};
 use image_disk::ImageDisk;
 
 impl ImageDisk for PlainDisk {
@@ -47,12 +47,8 @@ impl ImageDisk for PlainDisk {
         self.power.tick()
     }
 
-    fn is_readable(&self, block: u64) -> bool {
-        cell_readable(self.image.as_slice(), CELL * block as usize)
-    }
-
-    fn read_block(&self, block: u64, into: &mut [u8]) -> bool {
-        read_cell(self.image.as_slice(), CELL * block as usize, into)
+    fn content(&self, block: u64) -> Option<&[u8]> {
+        content_at(self.image.as_slice(), CELL * block as usize)
     }
 
     fn write_block(&mut self, _through: bool, block: u64, data: &[u8]) {
