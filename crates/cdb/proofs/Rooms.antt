@@ -1,6 +1,5 @@
 -- A request that was taken in has the room that its command needs.
-use Rattle.std.proofs.Common.{◌≡◌, ℕ, ◌≤◌, Bool, true, false, cond, List, [], ◌∷◌, length, Ok, Err, Result, sym, subst, arith}
-use Rattle.sense.specs.declared.refusal.Refusal.{Refusal}
+use Rattle.std.proofs.Common.{◌≡◌, ℕ, ◌≤◌, Bool, true, false, cond, List, [], ◌∷◌, length, Ok, Err, arith}
 use Rattle.sense.specs.declared.refusal.Refusal.TheVariants.{CdbLength}
 use Rattle.cdb.specs.declared.command.Command.{Command}
 use Rattle.cdb.specs.declared.command.Command.TheVariants.{TestUnitReady, ReadCapacity, Read, Write}
@@ -22,15 +21,11 @@ requested_room WriteOp cdb out room h k = judged_room _ (Write _ _) out room h
 requested_room Unknown cdb out room h k = tt
 
 pub received_room : (cdb : List ℕ) (q : Request) (out room : ℕ) → received cdb ≡ Ok q → q.out ≤ out → q.into ≤ room → Room q.command out room
-received_room [] q out room e h k = absurd (let z : ◌≡◌ {A = ℕ} 0 1 = cc in omega arith)
+received_room [] q out room e h k = grind arith
 received_room (code ∷ rest) q out room e h k = by (length_fits code (length (code ∷ rest))) e
   where
-    is : (a b : Request) → ◌≡◌ {A = Result Request Refusal} (Ok a) (Ok b) → a ≡ b
-    is a b e = cc
-
     by : (v : Bool) → cond v (Ok (requested (operation_of code) (code ∷ rest))) (Err CdbLength) ≡ Ok q → Room q.command out room
     by true f =
-        let i : requested (operation_of code) (code ∷ rest) ≡ q = is _ _ f in
-        subst (λ (z : Request). Room z.command out room) i
-        (requested_room (operation_of code) (code ∷ rest) out room (subst (λ (z : Request). z.out ≤ out) (sym i) h) (subst (λ (z : Request). z.into ≤ room) (sym i) k))
-    by false f = absurd (let z : ◌≡◌ {A = ℕ} 0 1 = cc in omega arith)
+        let is : requested (operation_of code) (code ∷ rest) ≡ q = cc in
+        rw (← is) (requested_room (operation_of code) (code ∷ rest) out room (rw is h) (rw is k))
+    by false f = grind arith

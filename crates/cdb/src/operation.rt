@@ -3,6 +3,8 @@
 ghost use Rattle.std.specs.Prelude.{◌≡◌};
 ghost use Rattle.cdb.specs.Requests.{operation_of, length_fits};
 
+use crate::form::{CdbForm, Ten};
+
 /// What an operation code asks for.
 #[derive(Clone, Copy)]
 pub(crate) enum Operation {
@@ -13,10 +15,10 @@ pub(crate) enum Operation {
     Unknown,
 }
 
-impl Operation {
-    pub(crate) fn of(code: u8) -> Operation
-        ensures { result ≡ operation_of code }
-    {
+impl From<u8> for Operation {
+    ghost from_gives = { λ code operation. operation ≡ operation_of code };
+
+    fn from(code: u8) -> Operation {
         match code {
             0x00 => Operation::TestUnitReady,
             0x25 => Operation::ReadCapacity,
@@ -33,7 +35,7 @@ pub(crate) fn length_fits(code: u8, length: usize) -> bool
 {
     match code {
         0x00..=0x1F => length == 6,
-        0x20..=0x5F => length == 10,
+        0x20..=0x5F => length == Ten::LENGTH,
         0x60..=0x7F => true,
         0x80..=0x9F => length == 16,
         0xA0..=0xBF => length == 12,

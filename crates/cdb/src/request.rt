@@ -2,12 +2,15 @@
 
 ghost use Rattle.std.specs.Prelude.{◌≡◌, ℕ, ◌+◌, ◌*◌, ◌<◌, ◌≤◌, length};
 ghost use Rattle.cdb.specs.declared.operation.Operation.TheVariants.{TestUnitReady as TestOp, ReadCapacity as CapacityOp};
-ghost use Rattle.cdb.specs.Requests.{judged_field, requested, read_request, write_request, received};
+ghost use Rattle.cdb.specs.Requests.{asks_for, judged_field, requested, read_request, write_request, received};
 
 use crate::command::Command;
-use crate::form::{CdbForm, Ten, Transfer, has, transfer_fields, word};
+use crate::form::{CdbForm, NACA, Six, Ten, Transfer};
 use crate::operation::{Operation, length_fits};
 use sense::{Refusal, Sense};
+
+/// PMI, in byte 8 of READ CAPACITY.
+const PMI: u8 = 0x01;
 
 /// The bytes that a command needs of data-out and of data-in, and the command, or what is wrong with it.
 #[derive(Clone, Copy)]
@@ -15,6 +18,19 @@ pub struct Request {
     pub out: usize,
     pub into: usize,
     pub command: Result<Command, Sense>,
+}
+
+impl Request {
+    // What needs nothing of the buffers.
+    fn of(command: Result<Command, Sense>) -> Request
+        ensures { result ≡ asks_for 0 0 command }
+    {
+        Request {
+            out: 0,
+            into: 0,
+            command,
+        }
+    }
 }
 
 fn judged(wrong: bool, command: Command) -> Result<Command, Sense>
@@ -27,28 +43,22 @@ fn judged(wrong: bool, command: Command) -> Result<Command, Sense>
     }
 }
 
-fn test_request(cdb: &[u8]) -> Request
-    requires { length cdb.now ≡ 6 }
+fn test_request(cdb: &Six) -> Request
     ensures { result ≡ requested TestOp cdb.now }
 {
-    Request {
-        out: 0,
-        into: 0,
-        command: judged(has(cdb, 5, 0x04), Command::TestUnitReady),
-    }
+    let [.., control] = *cdb;
+    Request::of(judged(control & NACA != 0, Command::TestUnitReady))
 }
 
-fn capacity_request(cdb: &[u8]) -> Request
-    requires { length cdb.now ≡ 10 }
+fn capacity_request(cdb: &Ten) -> Request
     ensures { result ≡ requested CapacityOp cdb.now }
 {
-    let naca = has(cdb, 9, 0x04);
-    let partial = has(cdb, 8, 0x01);
-    let addressed = word(cdb, 2) != 0;
+    let naca = cdb.control() & NACA != 0;
+    let partial = cdb[8] & PMI != 0;
+    let addressed = cdb.extent().block != 0;
     Request {
-        out: 0,
         into: 8,
-        command: judged(naca | (partial | addressed), Command::ReadCapacity),
+        ..Request::of(judged(naca | (partial | addressed), Command::ReadCapacity))
     }
 }
 
@@ -57,9 +67,8 @@ fn read_request(transfer: Transfer) -> Request
 {
     let Transfer { extent, fua, wrong } = transfer;
     Request {
-        out: 0,
-        into: 512 * extent.count as usize,
-        command: judged(wrong, Command::Read { fua, extent }),
+        into: transfer.bytes(),
+        ..Request::of(judged(wrong, Command::Read { fua, extent }))
     }
 }
 
@@ -68,9 +77,8 @@ fn write_request(transfer: Transfer) -> Request
 {
     let Transfer { extent, fua, wrong } = transfer;
     Request {
-        out: 512 * extent.count as usize,
-        into: 0,
-        command: judged(wrong, Command::Write { fua, extent }),
+        out: transfer.bytes(),
+        ..Request::of(judged(wrong, Command::Write { fua, extent }))
     }
 }
 
@@ -78,22 +86,17 @@ fn write_request(transfer: Transfer) -> Request
 pub fn receive(cdb: &[u8]) -> Result<Request, Refusal>
     ensures { result ≡ received cdb.now }
 {
-    if cdb.is_empty() {
+    let [code, ..] = cdb else {
+        return Err(Refusal::CdbLength);
+    };
+    if !length_fits(*code, cdb.len()) {
         return Err(Refusal::CdbLength);
     }
-    let code = cdb[0];
-    if !length_fits(code, cdb.len()) {
-        return Err(Refusal::CdbLength);
-    }
-    Ok(match Operation::of(code) {
-        Operation::TestUnitReady => test_request(cdb),
-        Operation::ReadCapacity => capacity_request(cdb),
-        Operation::Read => read_request(transfer_fields::<Ten>(cdb)),
-        Operation::Write => write_request(transfer_fields::<Ten>(cdb)),
-        Operation::Unknown => Request {
-            out: 0,
-            into: 0,
-            command: Err(Sense::UnknownCode),
-        },
+    Ok(match Operation::from(*code) {
+        Operation::TestUnitReady => test_request(cdb.as_array().unwrap()),
+        Operation::ReadCapacity => capacity_request(cdb.as_array().unwrap()),
+        Operation::Read => read_request(Transfer::of::<Ten>(cdb.as_array().unwrap())),
+        Operation::Write => write_request(Transfer::of::<Ten>(cdb.as_array().unwrap())),
+        Operation::Unknown => Request::of(Err(Sense::UnknownCode)),
     })
 }
