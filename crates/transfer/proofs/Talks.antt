@@ -1,10 +1,10 @@
 -- Conversations put together: a first command and the rest, one list of commands and then another.
-use Rattle.std.proofs.Common.{◌≡◌, ℕ, List, [], ◌∷◌, ◌++◌, Ok, Err, sym, refl, ap, ◌∙◌, subst, arith}
+use Rattle.std.proofs.Common.{◌≡◌, ℕ, ◌+◌, List, [], ◌∷◌, ◌++◌, Ok, Err, sym, refl, ap, ◌∙◌, subst, arith}
 use Rattle.ata.specs.declared.answer.Answer.{Answer}
 use Rattle.ata.specs.Exchange.{Exchange, exchange}
 use Rattle.transfer.specs.declared.faults.Fault.{Fault}
 use Rattle.transfer.specs.declared.counts.Tally.{Tally}
-use Rattle.transfer.specs.Talk.{Chain, Verdict, judged, Ask, part, laid, made, goes_on, Follows, placed, after, verdict, counted, tallied, Held, Asked}
+use Rattle.transfer.specs.Talk.{Chain, Verdict, judged, Ask, part, laid, made, goes_on, Follows, placed, after, verdict, counted, tallied, Held}
 
 module _ {D : Type 0} (does : D → Exchange → D → Type 0) where
   pub held_none : (d : D) (b : List ℕ) (p : Tally) → Held does [] d b p d b p (Ok tt)
@@ -46,35 +46,30 @@ module _ {D : Type 0} (does : D → Exchange → D → Type 0) where
         result = ap (λ (v : Verdict). after v (verdict ks [])) (sym j);
       }
 
-  -- the same from what is known of one command with its part of data-in
-  module _ (k : Ask) (ks : List Ask) (d m : D) (b back before next : List ℕ) (p q : Tally) (r : Verdict)
-      (s : Asked does k d before p m back q r) (is-part : before ≡ part k b) (is-next : next ≡ laid k back b) where
-    done : does d (made k b back s.answer) m
-    done = subst (λ (z : List ℕ). does d (exchange k.task (k.carry z) back s.answer) m) is-part s.done
+  tally_is : (q : Tally) (x y : ℕ) → q.bytes ≡ x → q.commands ≡ y → q ≡ record { bytes = x; commands = y }
+  tally_is q x y e f = ap (λ (z : ℕ). record { bytes = z; commands = q.commands }) e ∙ ap (λ (z : ℕ). record { bytes = x; commands = z }) f
 
-    pub asked_more : (u : Unit {0}) → r ≡ Ok u → (e : D) (end : List ℕ) (t : Tally) (v : Verdict) → Held does ks m next q e end t v → Held does (k ∷ ks) d b p e end t v
-    asked_more u w e end t v h =
-        held_more k ks d m e b back end p t s.answer v u done (sym s.result ∙ w)
-        (subst (λ (z : Tally). Held does ks m (laid k back b) z e end t v) s.tally
-        (subst (λ (z : List ℕ). Held does ks m z q e end t v) is-next h))
-
-    pub asked_stop : (f : Fault) (v : Verdict) → r ≡ Err f → v ≡ Err f → Held does (k ∷ ks) d b p m next q v
-    asked_stop f v w x =
-        subst (λ (z : Verdict). Held does (k ∷ ks) d b p m next q z) (sym x)
-        (subst (λ (z : List ℕ). Held does (k ∷ ks) d b p m z q (Err f)) (sym is-next)
-        (subst (λ (z : Tally). Held does (k ∷ ks) d b p m (laid k back b) z (Err f)) (sym s.tally)
-        (held_stop k ks d m b back p s.answer f done (sym s.result ∙ w))))
-
-  -- one command, and nothing after it
-  pub held_one : (k : Ask) (d m : D) (b back before next : List ℕ) (p q : Tally) (r : Verdict) → Asked does k d before p m back q r → before ≡ part k b → next ≡ laid k back b →
-      Held does (k ∷ []) d b p m next q r
-  held_one k d m b back before next p q r s i n = by r refl
+  -- one command, and nothing after it, from what is known of it with its part of data-in
+  pub held_one : (k : Ask) (d m : D) (b back before next : List ℕ) (p q : Tally) (r : Verdict) (a : Answer) →
+      does d (exchange k.task (k.carry before) back a) m → before ≡ part k b → next ≡ laid k back b →
+      q.bytes ≡ p.bytes + k.gains (judged a) → q.commands ≡ p.commands + 1 → r ≡ judged a → Held does (k ∷ []) d b p m next q r
+  held_one k d m b back before next p q r a done is-part is-next bytes commands told =
+      subst (λ (z : Verdict). Held does (k ∷ []) d b p m next q z) (sym told)
+      (subst (λ (z : List ℕ). Held does (k ∷ []) d b p m z q (judged a)) (sym is-next)
+      (subst (λ (z : Tally). Held does (k ∷ []) d b p m (laid k back b) z (judged a)) (sym (tally_is q (p.bytes + k.gains (judged a)) (p.commands + 1) bytes commands))
+      (by (judged a) refl)))
     where
-      by : (v : Verdict) → r ≡ v → Held does (k ∷ []) d b p m next q r
+      made_so : does d (made k b back a) m
+      made_so = subst (λ (z : List ℕ). does d (exchange k.task (k.carry z) back a) m) is-part done
+
+      by : (v : Verdict) → judged a ≡ v → Held does (k ∷ []) d b p m (laid k back b) (counted k a p) (judged a)
       by (Ok u) w =
-          subst (λ (z : Verdict). Held does (k ∷ []) d b p m next q z) (sym w)
-          (asked_more k [] d m b back before next p q r s i n u w m next q (Ok u) (held_none m next q))
-      by (Err f) w = asked_stop k [] d m b back before next p q r s i n f r w w
+          held_more k [] d m m b back (laid k back b) p (counted k a p) a (judged a) u made_so w
+          (subst (λ (z : Verdict). Held does [] m (laid k back b) (counted k a p) m (laid k back b) (counted k a p) z) (sym w)
+          (held_none m (laid k back b) (counted k a p)))
+      by (Err f) w =
+          subst (λ (z : Verdict). Held does (k ∷ []) d b p m (laid k back b) (counted k a p) z) (sym w)
+          (held_stop k [] d m b back p a f made_so w)
 
   -- a conversation taken apart at its first exchange
   pub record First (k : Ask) (ks : List Ask) (d : D) (b : List ℕ) (p : Tally) (e : D) (end : List ℕ) (q : Tally) (r : Verdict) : Type 0 where

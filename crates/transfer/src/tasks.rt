@@ -3,6 +3,7 @@
 ghost use Rattle.std.specs.Prelude.{◌≡◌, ◌<◌, ◌≤◌};
 ghost use Rattle.transfer.specs.Tasks.{limit, read_task, write_task, flush_task, piece};
 
+use crate::pieces::PieceSize;
 use ata::{AtaCommand, Feature, TaskFile};
 
 /// How many bits of address the commands have.
@@ -72,9 +73,10 @@ pub(crate) fn flush_task(width: Width) -> TaskFile
 }
 
 /// How many blocks go in a piece, to a drive that takes `most`.
-pub(crate) fn piece_size(width: Width, most: u32) -> usize
-    ensures value { result ≡ piece width most }
-    ensures some { 0 < result }
+pub(crate) fn piece_size(width: Width, most: u32) -> PieceSize
+    ensures { result.blocks ≡ piece width most }
 {
-    (most.max(1) as usize).min(count_limit(width))
+    PieceSize {
+        blocks: (most.max(1) as usize).min(count_limit(width)),
+    }
 }

@@ -1,0 +1,11 @@
+use Rattle.std.proofs.Common.{[], refl, arith}
+use Rattle.transfer.specs.Asks.{plain_ask}
+use Rattle.transfer.proofs.Talks.{held_one}
+use Rattle.transfer.proofs.conversation.Conversation.order.Goals as goal
+
+pub returns-clause-said : goal.returns-clause-said
+returns-clause-said g c b =
+    record {
+      drive = refl;
+      held = held_one g.D.Drive.does (plain_ask c.args.task) _ _ b [] [] b _ _ _ _ c.no_data-answer.ensures refl refl (omega arith) (omega arith) c.hear.ensures.judged;
+    }
