@@ -1,5 +1,5 @@
 -- The pieces of a range, by the first.
-use Rattle.std.proofs.Common.{◌≡◌, ℕ, zero, suc, ◌+◌, ◌-◌, ◌*◌, ◌<◌, ◌≤◌, min, Bool, true, false, ◌⊎◌, List, [], ◌∷◌, sym, refl, ap, ◌∙◌, inl, inr, arith}
+use Rattle.std.proofs.Common.{◌≡◌, ℕ, zero, suc, ◌+◌, ◌-◌, ◌*◌, ◌<◌, ◌≤◌, min, Bool, true, List, [], ◌∷◌, sym, refl, ap, ◌∙◌, inl, inr, arith}
 use Rattle.std.proofs.lemmas.Bool.Decides.{leb_tells}
 use Rattle.transfer.specs.Talk.{Ask}
 use Rattle.transfer.specs.declared.tasks.Width.{Width}
@@ -46,10 +46,3 @@ pieces_more ask t b n at p b' n' at' s h e x y z =
 pub flush_some : (w : Width) (v : Bool) (n : ℕ) → v ≡ true → (n ≡ 0 → ⊥) → flush_beside w v n ≡ plain_ask (flush_task w) ∷ []
 flush_some w v zero t h = absurd (h refl)
 flush_some w v (suc n) t h = ap (λ (z : Bool). flush_beside w z (suc n)) t
-
--- and none where it is not wanted, or beside no block
-pub flush_unwanted : (w : Width) (v : Bool) (n : ℕ) → v ≡ false → flush_beside w v n ≡ []
-flush_unwanted w v n t = ap (λ (z : Bool). flush_beside w z n) t
-
-pub flush_empty : (w : Width) (v : Bool) (n : ℕ) → v ≡ true → n ≡ 0 → flush_beside w v n ≡ []
-flush_empty w v n t e = ap (λ (z : Bool). flush_beside w z n) t ∙ ap (λ (k : ℕ). flush_beside w true k) e

@@ -51,9 +51,9 @@ module _ {D : Type 0} (does : D → Exchange → D → Type 0) where
 
   -- one command, and nothing after it, from what is known of it with its part of data-in
   pub held_one : (k : Ask) (d m : D) (b back before next : List ℕ) (p q : Tally) (r : Verdict) (a : Answer) →
-      does d (exchange k.task (k.carry before) back a) m → before ≡ part k b → next ≡ laid k back b →
-      q.bytes ≡ p.bytes + k.gains (judged a) → q.commands ≡ p.commands + 1 → r ≡ judged a → Held does (k ∷ []) d b p m next q r
-  held_one k d m b back before next p q r a done is-part is-next bytes commands told =
+      r ≡ judged a → does d (exchange k.task (k.carry before) back a) m → before ≡ part k b → next ≡ laid k back b →
+      q.bytes ≡ p.bytes + k.gains (judged a) → q.commands ≡ p.commands + 1 → Held does (k ∷ []) d b p m next q r
+  held_one k d m b back before next p q r a told done is-part is-next bytes commands =
       subst (λ (z : Verdict). Held does (k ∷ []) d b p m next q z) (sym told)
       (subst (λ (z : List ℕ). Held does (k ∷ []) d b p m z q (judged a)) (sym is-next)
       (subst (λ (z : Tally). Held does (k ∷ []) d b p m (laid k back b) z (judged a)) (sym (tally_is q (p.bytes + k.gains (judged a)) (p.commands + 1) bytes commands))

@@ -6,6 +6,7 @@ ghost use Rattle.transfer.specs.Said.{Said, Outline};
 
 use crate::conversation::Conversation;
 use crate::faults::Fault;
+use crate::tasks::Width;
 use ata::Drive;
 use std::ops::Range;
 
@@ -32,6 +33,17 @@ impl Piece {
 pub(crate) struct PieceSize {
     pub blocks: usize,
     ghost some: { 0 < blocks },
+}
+
+impl PieceSize {
+    /// What a command of this width can name, and a drive that takes `most`.
+    pub(crate) fn new(width: Width, most: u32) -> PieceSize
+        ensures { result.blocks ≡ piece width most }
+    {
+        PieceSize {
+            blocks: (most.max(1) as usize).min(width.count_limit()),
+        }
+    }
 }
 
 /// The data of a transfer, which go one way or the other.

@@ -10,8 +10,8 @@ use crate::address::Lba;
 use crate::conversation::Conversation;
 use crate::counts::Tally;
 use crate::faults::Fault;
-use crate::pieces::{Piece, TransferData};
-use crate::tasks::{Width, piece_size, read_task};
+use crate::pieces::{Piece, PieceSize, TransferData};
+use crate::tasks::{Width, read_task};
 use ata::Drive;
 
 /// Data from the drive, by commands of one width.
@@ -60,7 +60,7 @@ impl<'d, D: Drive> Conversation<'d, D> {
         requires fresh { self.old.tally ≡ none_yet }
         ensures { Said D.Drive.does (read_asks width fua (piece width (D.Drive.meaning self.old.drive.now).most) start.value (length «data».old / 512)) self.old «data».old self.new «data».new result }
     {
-        let size = piece_size(width, self.drive.most());
+        let size = PieceSize::new(width, self.drive.most());
         self.flush_beside(width, fua, data.len() / 512)?;
         let mut data_in = DataIn { width, bytes: data };
         self.transfer(start, size, &mut data_in)

@@ -10,8 +10,8 @@ use crate::address::Lba;
 use crate::conversation::Conversation;
 use crate::counts::Tally;
 use crate::faults::Fault;
-use crate::pieces::{Piece, TransferData};
-use crate::tasks::{Width, piece_size, write_task};
+use crate::pieces::{Piece, PieceSize, TransferData};
+use crate::tasks::{Width, write_task};
 use ata::Drive;
 
 /// How a WRITE is to reach the medium: when the drive likes, through the cache, or by a flush after it.
@@ -55,7 +55,8 @@ impl<'a> TransferData for DataOut<'a> {
 
     fn ask<D: Drive>(&mut self, talk: &mut Conversation<D>, piece: Piece) -> Result<(), Fault> {
         let task = write_task(self.width, self.through, piece.block, piece.count);
-        let answer = talk.drive.data_out(task, &self.bytes[piece.bytes()]);
+        let part = piece.bytes();
+        let answer = talk.drive.data_out(task, &self.bytes[part]);
         talk.tally.hear(answer)
     }
 }
@@ -65,7 +66,7 @@ impl<'d, D: Drive> Conversation<'d, D> {
         requires fresh { self.old.tally ≡ none_yet }
         ensures { (b : List ℕ) → Said D.Drive.does (write_asks width force (piece width (D.Drive.meaning self.old.drive.now).most) start.value «data».now) self.old b self.new b result }
     {
-        let size = piece_size(width, self.drive.most());
+        let size = PieceSize::new(width, self.drive.most());
         let mut data_out = DataOut {
             width,
             through: force.goes_through(),

@@ -7,5 +7,5 @@ pub returns-clause-said : goal.returns-clause-said
 returns-clause-said g c b =
     record {
       drive = refl;
-      held = held_one g.D.Drive.does (plain_ask c.args.task) _ _ b [] [] b _ _ _ _ c.no_data-answer.ensures refl refl (omega arith) (omega arith) c.hear.ensures.judged;
+      held = held_one g.D.Drive.does (plain_ask c.args.task) _ _ b [] [] b _ _ _ _ c.hear.ensures.judged c.no_data-answer.ensures refl refl (omega arith) (omega arith);
     }

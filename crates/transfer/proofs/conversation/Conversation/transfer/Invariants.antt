@@ -1,4 +1,4 @@
-use Rattle.std.proofs.Common.{◌≡◌, ℕ, ◌+◌, ◌-◌, ◌*◌, ◌/◌, ◌≤◌, min, List}
+use Rattle.std.proofs.Common.{◌≡◌, ℕ, ◌+◌, ◌-◌, ◌*◌, ◌≤◌, min, List}
 use Rattle.transfer.specs.declared.conversation.Conversation.{Conversation}
 use Rattle.transfer.specs.Talk.{Verdict}
 use Rattle.transfer.specs.Asks.{pieces}

@@ -11,5 +11,5 @@ returns-clause-said g c b =
     record {
       drive = refl;
       held = held_one g.D.Drive.does (read_ask c.args.self.now.width c.args.piece.block c.args.piece.count c.args.piece.at) _ _ c.args.self.now.bytes.now _ _ _ _ _ _ _
-          (rw c.read_task-task.ensures at c.data_in-answer.ensures) (rw (wide, part.ensures.start)) (rw (wide, part.ensures.start)) (omega (arith, gains)) (omega arith) c.hear-verdict.ensures.judged;
+          c.hear-verdict.ensures.judged (rw c.read_task-task.ensures at c.data_in-answer.ensures) (rw (wide, part.ensures.start)) (rw (wide, part.ensures.start)) (omega (arith, gains)) (omega arith);
     }
