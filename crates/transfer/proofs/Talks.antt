@@ -4,7 +4,7 @@ use Rattle.ata.specs.declared.answer.Answer.{Answer}
 use Rattle.ata.specs.Exchange.{Exchange, exchange}
 use Rattle.transfer.specs.declared.faults.Fault.{Fault}
 use Rattle.transfer.specs.declared.counts.Tally.{Tally}
-use Rattle.transfer.specs.Talk.{Chain, Verdict, judged, Ask, part, laid, made, goes_on, Follows, placed, after, verdict, counted, tallied, Held}
+use Rattle.transfer.specs.Talk.{Chain, Verdict, judged, Ask, part, laid, made, goes_on, Follows, placed, after, verdict, counted, tallied, Held, Asked}
 
 module _ {D : Type 0} (does : D → Exchange → D → Type 0) where
   pub held_none : (d : D) (b : List ℕ) (p : Tally) → Held does [] d b p d b p (Ok tt)
@@ -46,30 +46,35 @@ module _ {D : Type 0} (does : D → Exchange → D → Type 0) where
         result = ap (λ (v : Verdict). after v (verdict ks [])) (sym j);
       }
 
-  tally_is : (q : Tally) (x y : ℕ) → q.bytes ≡ x → q.commands ≡ y → q ≡ record { bytes = x; commands = y }
-  tally_is q x y e f = ap (λ (z : ℕ). record { bytes = z; commands = q.commands }) e ∙ ap (λ (z : ℕ). record { bytes = x; commands = z }) f
+  -- what is known of one command, by its numbers
+  pub asked : (k : Ask) (d m : D) (before back : List ℕ) (p q : Tally) (r : Verdict) (a : Answer) → r ≡ judged a → does d (exchange k.task (k.carry before) back a) m →
+      q.bytes ≡ p.bytes + k.gains (judged a) → q.commands ≡ p.commands + 1 → Asked does k d before p m back q r
+  asked k d m before back p q r a told done e f =
+      record {
+        answer = a;
+        done = done;
+        tally = ap (λ (z : ℕ). record { bytes = z; commands = q.commands }) e ∙ ap (λ (z : ℕ). record { bytes = p.bytes + k.gains (judged a); commands = z }) f;
+        result = told;
+      }
 
   -- one command, and nothing after it, from what is known of it with its part of data-in
-  pub held_one : (k : Ask) (d m : D) (b back before next : List ℕ) (p q : Tally) (r : Verdict) (a : Answer) →
-      r ≡ judged a → does d (exchange k.task (k.carry before) back a) m → before ≡ part k b → next ≡ laid k back b →
-      q.bytes ≡ p.bytes + k.gains (judged a) → q.commands ≡ p.commands + 1 → Held does (k ∷ []) d b p m next q r
-  held_one k d m b back before next p q r a told done is-part is-next bytes commands =
-      subst (λ (z : Verdict). Held does (k ∷ []) d b p m next q z) (sym told)
-      (subst (λ (z : List ℕ). Held does (k ∷ []) d b p m z q (judged a)) (sym is-next)
-      (subst (λ (z : Tally). Held does (k ∷ []) d b p m (laid k back b) z (judged a)) (sym (tally_is q (p.bytes + k.gains (judged a)) (p.commands + 1) bytes commands))
-      (by (judged a) refl)))
+  pub held_one : (k : Ask) (d m : D) (b back before next : List ℕ) (p q : Tally) (r : Verdict) → Asked does k d before p m back q r → before ≡ part k b → next ≡ laid k back b →
+      Held does (k ∷ []) d b p m next q r
+  held_one k d m b back before next p q r s is-part is-next =
+      subst (λ (z : List ℕ). Held does (k ∷ []) d b p m z q r) (sym is-next)
+      (subst (λ (z : Tally). Held does (k ∷ []) d b p m (laid k back b) z r) (sym s.tally) (by r refl))
     where
-      made_so : does d (made k b back a) m
-      made_so = subst (λ (z : List ℕ). does d (exchange k.task (k.carry z) back a) m) is-part done
+      done : does d (made k b back s.answer) m
+      done = subst (λ (z : List ℕ). does d (exchange k.task (k.carry z) back s.answer) m) is-part s.done
 
-      by : (v : Verdict) → judged a ≡ v → Held does (k ∷ []) d b p m (laid k back b) (counted k a p) (judged a)
+      by : (v : Verdict) → r ≡ v → Held does (k ∷ []) d b p m (laid k back b) (counted k s.answer p) r
       by (Ok u) w =
-          held_more k [] d m m b back (laid k back b) p (counted k a p) a (judged a) u made_so w
-          (subst (λ (z : Verdict). Held does [] m (laid k back b) (counted k a p) m (laid k back b) (counted k a p) z) (sym w)
-          (held_none m (laid k back b) (counted k a p)))
+          held_more k [] d m m b back (laid k back b) p (counted k s.answer p) s.answer r u done (sym s.result ∙ w)
+          (subst (λ (z : Verdict). Held does [] m (laid k back b) (counted k s.answer p) m (laid k back b) (counted k s.answer p) z) (sym w)
+          (held_none m (laid k back b) (counted k s.answer p)))
       by (Err f) w =
-          subst (λ (z : Verdict). Held does (k ∷ []) d b p m (laid k back b) (counted k a p) z) (sym w)
-          (held_stop k [] d m b back p a f made_so w)
+          subst (λ (z : Verdict). Held does (k ∷ []) d b p m (laid k back b) (counted k s.answer p) z) (sym w)
+          (held_stop k [] d m b back p s.answer f done (sym s.result ∙ w))
 
   -- a conversation taken apart at its first exchange
   pub record First (k : Ask) (ks : List Ask) (d : D) (b : List ℕ) (p : Tally) (e : D) (end : List ℕ) (q : Tally) (r : Verdict) : Type 0 where

@@ -48,6 +48,7 @@ impl PieceSize {
 
 /// The data of a transfer, which go one way or the other.
 pub(crate) trait TransferData {
+    /// What stays from the first piece to the last.
     ghost outline: { Self → Outline };
 
     /// Data-in as it stands, where b is what stands without these data.

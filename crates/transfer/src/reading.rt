@@ -21,7 +21,7 @@ struct DataIn<'a> {
     bytes: &'a mut [u8],
 }
 
-impl<'a> TransferData for DataIn<'a> {
+impl TransferData for DataIn<'_> {
     ghost outline = { λ s. record { asks = read_ask s.width; bytes = length s.bytes.now; borrow = s.bytes.ghost_name } };
 
     ghost data_in = { λ s b. s.bytes.now };
@@ -55,7 +55,7 @@ fn gained(piece: Piece, verdict: &Result<(), Fault>) -> usize
     }
 }
 
-impl<'d, D: Drive> Conversation<'d, D> {
+impl<D: Drive> Conversation<'_, D> {
     fn read(&mut self, width: Width, fua: bool, start: Lba, data: &mut [u8]) -> Result<(), Fault>
         requires fresh { self.old.tally ≡ none_yet }
         ensures { Said D.Drive.does (read_asks width fua (piece width (D.Drive.meaning self.old.drive.now).most) start.value (length «data».old / 512)) self.old «data».old self.new «data».new result }

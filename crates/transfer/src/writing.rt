@@ -44,7 +44,7 @@ struct DataOut<'a> {
     bytes: &'a [u8],
 }
 
-impl<'a> TransferData for DataOut<'a> {
+impl TransferData for DataOut<'_> {
     ghost outline = { λ s. record { asks = write_ask s.width s.through s.bytes.now; bytes = length s.bytes.now; borrow = 0 } };
 
     ghost data_in = { λ s b. b };
@@ -61,7 +61,7 @@ impl<'a> TransferData for DataOut<'a> {
     }
 }
 
-impl<'d, D: Drive> Conversation<'d, D> {
+impl<D: Drive> Conversation<'_, D> {
     fn write(&mut self, width: Width, force: Force, start: Lba, data: &[u8]) -> Result<(), Fault>
         requires fresh { self.old.tally ≡ none_yet }
         ensures { (b : List ℕ) → Said D.Drive.does (write_asks width force (piece width (D.Drive.meaning self.old.drive.now).most) start.value «data».now) self.old b self.new b result }
