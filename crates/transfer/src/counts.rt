@@ -24,6 +24,7 @@ impl Tally {
         }
     }
 
+    // That the count has room is known where the number of pieces is known, and is asked for up to there.
     /// Counts a command by its answer, and judges it.
     pub(crate) fn hear(&mut self, answer: Answer) -> Result<(), Fault>
         requires { self.old.commands + 1 < 2 ^ 64 }

@@ -16,11 +16,11 @@ pub(crate) struct Piece {
     pub block: u64,
     pub count: usize,
     pub at: usize,
+    ghost fits: { at + 512 * count < 2 ^ 64 },
 }
 
 impl Piece {
     pub(crate) fn bytes(self) -> Range<usize>
-        requires { self.at + 512 * self.count < 2 ^ 64 }
         ensures start { result.start ≡ self.at }
         ensures end { result.end ≡ self.at + 512 * self.count }
     {

@@ -42,7 +42,6 @@ impl TransferData for DataIn<'_> {
 
 // The bytes of data-in that a piece of a read stands for: all, or those before the block that its fault names.
 fn gained(piece: Piece, verdict: &Result<(), Fault>) -> usize
-    requires { 512 * piece.count < 2 ^ 64 }
     ensures is { result ≡ read_gains piece.block piece.count verdict.now }
     ensures few { result ≤ 512 * piece.count }
 {
