@@ -79,12 +79,11 @@ module _ (s : State) (gs : List Group) (ys : List Step) (at : ℕ) (buffer : Lis
   by_run o x j e f st da ve co by =
       record {
         choices = o;
-        state = subst (λ (z : Outcome). t ≡ after_commands s (commands_of gs (begun o ys s.machine)) z.machine) (sym e) (subst (λ (n : ℕ). t ≡ after_commands s (commands_of gs n) x.machine) (sym f) st);
-        data_in = subst (λ (z : Outcome). end ≡ put at z.given buffer) (sym e) da;
-        verdict = subst (λ (z : Outcome). r ≡ told_by z.end) (sym e) ve;
-        commands = subst (λ (n : ℕ). q.commands ≡ p.commands + commands_of gs n) (sym f) co;
-        bytes = subst (λ (z : Outcome). q.bytes ≡ p.bytes + bytes_by z.end (length z.given) (finished_of gs (begun o ys s.machine))) (sym e)
-            (subst (λ (n : ℕ). q.bytes ≡ p.bytes + bytes_by x.end (length x.given) (finished_of gs n)) (sym f) by);
+        state = rw (e, f) st;
+        data_in = rw e da;
+        verdict = rw e ve;
+        commands = rw f co;
+        bytes = rw (e, f) by;
       }
 
   module _ (g : Group) (hs : List Group) (groups : gs ≡ g ∷ hs) (xs zs : List Step) (cut : ys ≡ xs ++ zs) (long : length xs ≡ g.steps) (o : Oracle) where

@@ -44,12 +44,9 @@ stepped_by s gs ys commands finished buffer t end q r c f h =
       data_in = h.data_in ∙ put_start (run o ys s).given buffer;
       verdict = h.verdict;
       counted = many ∙ c j low;
-      bytes = h.bytes ∙ zero_more (bytes_by (run o ys s).end (length (run o ys s).given) (finished_of gs j))
+      bytes = h.bytes ∙ zero-add (bytes_by (run o ys s).end (length (run o ys s).given) (finished_of gs j))
           ∙ bytes_same (run o ys s).end (length (run o ys s).given) (finished_of gs j) (finished j) (λ e. f j (cut_begun ys o s.machine e) low);
     }
-  where
-    zero_more : (n : ℕ) → 0 + n ≡ n
-    zero_more n = omega arith
 
 abbrev flush_groups : Bool → ℕ → List Group
 flush_groups false n = []

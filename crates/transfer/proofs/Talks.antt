@@ -61,8 +61,7 @@ module _ {D : Type 0} (does : D → Exchange → D → Type 0) where
   pub held_one : (k : Ask) (d m : D) (b back before next : List ℕ) (p q : Tally) (r : Verdict) → Asked does k d before p m back q r → before ≡ part k b → next ≡ laid k back b →
       Held does (k ∷ []) d b p m next q r
   held_one k d m b back before next p q r s is-part is-next =
-      subst (λ (z : List ℕ). Held does (k ∷ []) d b p m z q r) (sym is-next)
-      (subst (λ (z : Tally). Held does (k ∷ []) d b p m (laid k back b) z r) (sym s.tally) (by r refl))
+      rw (is-next, s.tally) (by r refl)
     where
       done : does d (made k b back s.answer) m
       done = subst (λ (z : List ℕ). does d (exchange k.task (k.carry z) back s.answer) m) is-part s.done
@@ -128,9 +127,7 @@ module _ {D : Type 0} (does : D → Exchange → D → Type 0) where
       Held does ks d b p m mid t v → Held does ls m mid t e end q r → Held does (ks ++ ls) d b p e end q r
   held_then [] ls d m e b mid end p t q v r u w h n =
       let z = held_nil d m b mid p t v h in
-      subst (λ (x : D). Held does ls x b p e end q r) (sym z.0)
-      (subst (λ (x : List ℕ). Held does ls m x p e end q r) z.1
-      (subst (λ (x : Tally). Held does ls m mid x e end q r) z.2 n))
+      rw (z.0, sym z.1, sym z.2) n
   held_then (k ∷ ks) ls d m e b mid end p t q v r u w h n =
       let f = held_first k ks d m b mid p t v h in
       by f (judged f.answer) refl
@@ -161,11 +158,7 @@ module _ {D : Type 0} (does : D → Exchange → D → Type 0) where
           (more (laid k f.back b) (counted k f.answer p) (f.well y j))
       by f (Err y) j more =
           let z = f.badly y j in
-          subst (λ (g : D). Held does ((k ∷ ks) ++ ls) d b p g end q r) z.0
-          (subst (λ (g : List ℕ). Held does ((k ∷ ks) ++ ls) d b p f.mid g q r) (sym z.1)
-          (subst (λ (g : Tally). Held does ((k ∷ ks) ++ ls) d b p f.mid (laid k f.back b) g r) (sym z.2)
-          (subst (λ (g : Verdict). Held does ((k ∷ ks) ++ ls) d b p f.mid (laid k f.back b) (counted k f.answer p) g) (sym z.3)
-          (held_stop k (ks ++ ls) d f.mid b f.back p f.answer y f.done j))))
+          rw (sym z.0, z.1, z.2, z.3) (held_stop k (ks ++ ls) d f.mid b f.back p f.answer y f.done j)
 
   -- the same for whoever passes the fault on
   pub held_passed : (ks ls : List Ask) (d e : D) (b end : List ℕ) (p q : Tally) (r v : Verdict) (x : Fault) → r ≡ Err x → v ≡ Err x →
