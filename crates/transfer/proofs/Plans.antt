@@ -135,7 +135,7 @@ module _ (s : State) (gs : List Group) (ys : List Step) (at : ℕ) (buffer : Lis
         let j : ℕ = begun o xs s.machine in
         let whole : run w ys s ≡ out = split w ∙ steps_join xs zs o o s.machine ∙ stays out.end out.given out.machine refl not_done in
         let counts : begun w ys s.machine ≡ j = split_begun w ∙ begun_join xs zs o o s.machine ∙ begun_stays out.end j (begun o zs out.machine) not_done in
-        let pos : 0 < j = subst (λ (z : List Step). 0 < begun o z s.machine) (sym some) (begun_some f others o s.machine) in
+        let pos : 0 < j = rw some (begun_some f others o s.machine) in
         let low : j ≤ g.steps = (let b = begun_few xs o s.machine in omega arith) in
         let cs : commands_of gs j ≡ 1 = ap (λ (z : List Group). commands_of z j) groups ∙ commands_first g hs j pos low in
         let fs : finished_of gs j ≡ 0 = ap (λ (z : List Group). finished_of z j) groups ∙ finished_first g hs j low in

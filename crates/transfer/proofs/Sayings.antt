@@ -1,5 +1,5 @@
 -- What is said in one conversation, put together.
-use Rattle.std.proofs.Common.{◌≡◌, ℕ, ◌+◌, ◌-◌, ◌*◌, ◌<◌, ◌≤◌, min, List, [], ◌∷◌, ◌++◌, Ok, Err, sym, refl, ◌∙◌, subst, arith}
+use Rattle.std.proofs.Common.{◌≡◌, ℕ, ◌+◌, ◌-◌, ◌*◌, ◌<◌, ◌≤◌, min, List, [], ◌∷◌, ◌++◌, Ok, Err, refl, ◌∙◌, arith}
 use Rattle.ata.specs.Exchange.{Exchange}
 use Rattle.transfer.specs.declared.faults.Fault.{Fault}
 use Rattle.transfer.specs.declared.conversation.Conversation.{Conversation}
@@ -37,7 +37,7 @@ module _ {D : Type 0} (does : D → Exchange → D → Type 0) where
     from_first : (b' n' at' : ℕ) (e : Conversation D) (end : List ℕ) (r : Verdict) → b' ≡ b + t → n' ≡ n - t → at' ≡ at + 512 * t →
         Said does (ask b (min t n) at ∷ pieces ask t b' n' at') c buffer e end r → Said does (pieces ask t b n at) c buffer e end r
     from_first b' n' at' e end r x y z h =
-        subst (λ (ks : List Ask). Said does ks c buffer e end r) (sym (pieces_more ask t b n at (min t n) b' n' at' some left refl x y z)) h
+        rw (pieces_more ask t b n at (min t n) b' n' at' some left refl x y z) h
 
     -- well, and the others from the next on
     pub said_more : (u : Unit {0}) (b' n' at' : ℕ) (e : Conversation D) (end : List ℕ) (r : Verdict) → v ≡ Ok u → b' ≡ b + t → n' ≡ n - t → at' ≡ at + 512 * t →
@@ -50,7 +50,7 @@ module _ {D : Type 0} (does : D → Exchange → D → Type 0) where
     pub said_last : (u : Unit {0}) → v ≡ Ok u → n ≤ t → Said does (pieces ask t b n at) c buffer m mid (Ok tt)
     said_last u w l =
         said_more u (b + t) (n - t) (at + 512 * t) m mid (Ok tt) w refl refl refl
-        (subst (λ (ks : List Ask). Said does ks m mid m mid (Ok tt)) (sym (pieces_none ask t (b + t) (n - t) (at + 512 * t) (omega arith))) (said_none m mid))
+        (rw (pieces_none ask t (b + t) (n - t) (at + 512 * t) (omega arith)) (said_none m mid))
 
     -- and it failed
     pub said_stop : (x : Fault) (r : Verdict) → v ≡ Err x → r ≡ Err x → Said does (pieces ask t b n at) c buffer m mid r

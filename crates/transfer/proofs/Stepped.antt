@@ -157,7 +157,7 @@ module _ {D : Type 0} (does : D → Exchange → D → Type 0) (meaning : D → 
       (plan_flush s.words w most (512 * n) fua n (cut n (read_ask w) most b n 0) (base most n) (reads b n) is-width
       (plan_reads n s.words w most n b 0 (512 * n) is-width some_most (omega arith) (omega arith) (omega arith)))
       room keeps
-      (subst (λ (t : ℕ). Held does (flush_beside w fua n ++ pieces (read_ask w) t b n 0) d buffer none_yet e end q r) (piece_is s w (formed d) is-width) held))
+      (rw (piece_is s w (formed d) is-width) at held))
 
   pub write_stepped : (force : Force) (b n : ℕ) (xs : List ℕ) → b + n ≤ size s → n ≡ length xs / 512 → (goes_through force ≡ true → through s.words ≡ true) → Held does (write_asks w force (piece w most) b xs) d buffer none_yet e end q r →
       Stepped s (write_steps force b (blocks n xs)) (write_commands most n) none_finished buffer (meaning e) end q r

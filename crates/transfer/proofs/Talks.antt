@@ -4,7 +4,7 @@ use Rattle.ata.specs.declared.answer.Answer.{Answer}
 use Rattle.ata.specs.Exchange.{Exchange, exchange}
 use Rattle.transfer.specs.declared.faults.Fault.{Fault}
 use Rattle.transfer.specs.declared.counts.Tally.{Tally}
-use Rattle.transfer.specs.Talk.{Chain, Verdict, judged, Ask, part, laid, made, goes_on, Follows, placed, after, verdict, counted, tallied, Held, Asked}
+use Rattle.transfer.specs.Talk.{Chain, Verdict, judged, Ask, part, laid, made, Follows, placed, after, verdict, counted, tallied, Held, Asked}
 
 module _ {D : Type 0} (does : D → Exchange → D → Type 0) where
   pub held_none : (d : D) (b : List ℕ) (p : Tally) → Held does [] d b p d b p (Ok tt)
@@ -18,7 +18,7 @@ module _ {D : Type 0} (does : D → Exchange → D → Type 0) where
       record {
         said = made k b back a ∷ h.said;
         chain = (m, x, h.chain);
-        follows = (refl, subst (λ (v : Verdict). goes_on v (Follows ks (laid k back b) h.said) (h.said ≡ [])) (sym j) h.follows);
+        follows = (refl, rw j h.follows);
         bytes = h.bytes;
         tally = h.tally;
         result = h.result ∙ ap (λ (v : Verdict). after v (verdict ks h.said)) (sym j);
@@ -40,7 +40,7 @@ module _ {D : Type 0} (does : D → Exchange → D → Type 0) where
       record {
         said = made k b back a ∷ [];
         chain = (e, x, refl);
-        follows = (refl, subst (λ (v : Verdict). goes_on v (Follows ks (laid k back b) []) (◌≡◌ {A = List Exchange} [] [])) (sym j) refl);
+        follows = (refl, rw j refl);
         bytes = placed_none ks (laid k back b);
         tally = tallied_none ks (counted k a p);
         result = ap (λ (v : Verdict). after v (verdict ks [])) (sym j);
@@ -64,16 +64,14 @@ module _ {D : Type 0} (does : D → Exchange → D → Type 0) where
       rw (is-next, s.tally) (by r refl)
     where
       done : does d (made k b back s.answer) m
-      done = subst (λ (z : List ℕ). does d (exchange k.task (k.carry z) back s.answer) m) is-part s.done
+      done = rw is-part at s.done
 
       by : (v : Verdict) → r ≡ v → Held does (k ∷ []) d b p m (laid k back b) (counted k s.answer p) r
       by (Ok u) w =
           held_more k [] d m m b back (laid k back b) p (counted k s.answer p) s.answer r u done (sym s.result ∙ w)
-          (subst (λ (z : Verdict). Held does [] m (laid k back b) (counted k s.answer p) m (laid k back b) (counted k s.answer p) z) (sym w)
-          (held_none m (laid k back b) (counted k s.answer p)))
+          (rw w (held_none m (laid k back b) (counted k s.answer p)))
       by (Err f) w =
-          subst (λ (z : Verdict). Held does (k ∷ []) d b p m (laid k back b) (counted k s.answer p) z) (sym w)
-          (held_stop k [] d m b back p s.answer f done (sym s.result ∙ w))
+          rw w (held_stop k [] d m b back p s.answer f done (sym s.result ∙ w))
 
   -- a conversation taken apart at its first exchange
   pub record First (k : Ask) (ks : List Ask) (d : D) (b : List ℕ) (p : Tally) (e : D) (end : List ℕ) (q : Tally) (r : Verdict) : Type 0 where
@@ -98,14 +96,14 @@ module _ {D : Type 0} (does : D → Exchange → D → Type 0) where
             well = λ u j. record {
               said = xs;
               chain = c.2;
-              follows = subst (λ (z : Verdict). goes_on z (Follows ks (laid k x.back b) xs) (xs ≡ [])) j f.1;
+              follows = rw j at f.1;
               bytes = g;
               tally = t;
               result = v ∙ ap (λ (z : Verdict). after z (verdict ks xs)) j;
             };
             badly = λ u j.
-                let z : xs ≡ [] = subst (λ (z : Verdict). goes_on z (Follows ks (laid k x.back b) xs) (xs ≡ [])) j f.1 in (
-                  subst (λ (ys : List Exchange). Chain does c.0 ys e) z c.2,
+                let z : xs ≡ [] = rw j at f.1 in (
+                  rw z at c.2,
                   g ∙ ap (λ (ys : List Exchange). placed ks ys (laid k x.back b)) z ∙ sym (placed_none ks (laid k x.back b)),
                   t ∙ ap (λ (ys : List Exchange). tallied ks ys (counted k x.answer p)) z ∙ sym (tallied_none ks (counted k x.answer p)),
                   v ∙ ap (λ (z : Verdict). after z (verdict ks xs)) j,
@@ -164,4 +162,4 @@ module _ {D : Type 0} (does : D → Exchange → D → Type 0) where
   pub held_passed : (ks ls : List Ask) (d e : D) (b end : List ℕ) (p q : Tally) (r v : Verdict) (x : Fault) → r ≡ Err x → v ≡ Err x →
       Held does ks d b p e end q r → Held does (ks ++ ls) d b p e end q v
   held_passed ks ls d e b end p q r v x w y h =
-      subst (λ (z : Verdict). Held does (ks ++ ls) d b p e end q z) (w ∙ sym y) (held_fail ks ls d e b end p q r x w h)
+      rw (y, sym w) (held_fail ks ls d e b end p q r x w h)
