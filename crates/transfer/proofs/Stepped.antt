@@ -175,8 +175,7 @@ module _ {D : Type 0} (does : D → Exchange → D → Type 0) (meaning : D → 
       (λ j low. write_counts most n v some_most j (omega arith))
       (λ j pos low. finished_bare (cut_groups n most n 0 (flush_groups v n)) (bare_cut n most n (flush_groups v n) (flush_bare v n)) j)
       (planned does meaning formed agrees s.words most (cut n (write_ask w t xs) most b n 0 ++ flush_beside w v n) (cut_groups n most n 0 (flush_groups v n)) ys 0 0 d e buffer end none_yet q r plan (omega arith) keeps
-      (subst (λ (k : ℕ). Held does (cut k (write_ask w t xs) most b k 0 ++ flush_beside w v k) d buffer none_yet e end q r) (sym count)
-      (subst (λ (m : ℕ). Held does (pieces (write_ask w t xs) m b (length xs / 512) 0 ++ flush_beside w v (length xs / 512)) d buffer none_yet e end q r) (piece_is s w (formed d) is-width) held))))
+      (rw (piece_is s w (formed d) is-width, sym count) at held)))
     where
       flush_plan : (v : Bool) (n : ℕ) → Plan s.words most 0 0 (flush_beside w v n) (flush_groups v n) (flush_steps v n)
       flush_plan false n = (refl, omega arith)

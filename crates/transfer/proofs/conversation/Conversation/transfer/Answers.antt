@@ -1,7 +1,5 @@
-use Rattle.std.proofs.Common.{List, Ok, Err, sym, ap, ◌∙◌, subst, arith}
+use Rattle.std.proofs.Common.{◌+◌, ◌-◌, ◌*◌, ◌/◌, Ok, Err, sym, ap, ◌∙◌, arith}
 use Rattle.std.proofs.lemmas.Result.{err_from_is_err_and}
-use Rattle.transfer.specs.Talk.{Ask}
-use Rattle.transfer.specs.Said.{Said}
 use Rattle.transfer.proofs.Cuts.{pieces_none}
 use Rattle.transfer.proofs.Sayings.{said_none, said_more, said_last, said_stop}
 use Rattle.transfer.proofs.conversation.Conversation.transfer.Goals as goal
@@ -33,7 +31,5 @@ loop-done-preserved g c =
 
 pub returns-clause-said : goal.returns-clause-said
 returns-clause-said g c b =
-    rw (sym c.len-count.ensures) (c.loop-done.invariant.said b _ _ _
-    (subst (λ (ks : List Ask). Said g.D.Drive.does ks c.loop-done.self (g.T.TransferData.data_in c.loop-done.data b) c.loop-done.self (g.T.TransferData.data_in c.loop-done.data b) (Ok tt))
-    (sym (pieces_none _ _ _ _ _ (omega arith)))
-    (said_none g.D.Drive.does c.loop-done.self _)))
+    let none = pieces_none (g.T.TransferData.outline c.args.data.now).asks c.args.size.blocks (c.args.start.value + c.loop-done.done) (c.len-count.result / 512 - c.loop-done.done) (512 * c.loop-done.done) (omega arith) in
+    rw (sym c.len-count.ensures) (c.loop-done.invariant.said b c.loop-done.self (g.T.TransferData.data_in c.loop-done.data b) (Ok tt) (rw none (said_none g.D.Drive.does c.loop-done.self (g.T.TransferData.data_in c.loop-done.data b))))
