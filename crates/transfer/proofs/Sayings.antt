@@ -1,5 +1,7 @@
 -- What is said in one conversation, put together.
-use Rattle.std.proofs.Common.{◌≡◌, ℕ, ◌+◌, ◌-◌, ◌*◌, ◌<◌, ◌≤◌, min, List, [], ◌∷◌, ◌++◌, Ok, Err, refl, ◌∙◌, arith}
+use Rattle.std.proofs.Common.{◌≡◌, ℕ, ◌+◌, ◌-◌, ◌*◌, ◌<◌, ◌≤◌, min, List, [], ◌∷◌, ◌++◌, Ok, Err, refl, ap, ◌∙◌, arith}
+use Rattle.std.specs.Result.{IsErrAnd}
+use Rattle.std.proofs.lemmas.Result.{err_from_is_err_and}
 use Rattle.ata.specs.Exchange.{Exchange}
 use Rattle.transfer.specs.declared.faults.Fault.{Fault}
 use Rattle.transfer.specs.declared.conversation.Conversation.{Conversation}
@@ -23,12 +25,13 @@ module _ {D : Type 0} (does : D → Exchange → D → Type 0) where
       }
 
   -- one list of commands that failed: the fault is passed on, and nothing after it is sent
-  pub said_passed : (ks ls : List Ask) (c e : Conversation D) (b end : List ℕ) (r v : Verdict) (x : Fault) → r ≡ Err x → v ≡ Err x →
+  pub said_passed : (ks ls : List Ask) (c e : Conversation D) (b end : List ℕ) (r v : Verdict) (x : Fault) → r ≡ Err x → IsErrAnd v (λ (y : Fault). y ≡ x) →
       Said does ks c b e end r → Said does (ks ++ ls) c b e end v
-  said_passed ks ls c e b end r v x w y h =
+  said_passed ks ls c e b end r v x w i h =
+      let p = err_from_is_err_and v i in
       record {
         drive = h.drive;
-        held = held_passed does ks ls c.drive.now e.drive.now b end c.tally e.tally r v x w y h.held;
+        held = held_passed does ks ls c.drive.now e.drive.now b end c.tally e.tally r v x w (p.1 ∙ ap Err p.2) h.held;
       }
 
   -- the first piece of a range was asked
@@ -53,7 +56,7 @@ module _ {D : Type 0} (does : D → Exchange → D → Type 0) where
         (rw (pieces_none ask t (b + t) (n - t) (at + 512 * t) (omega arith)) (said_none m mid))
 
     -- and it failed
-    pub said_stop : (x : Fault) (r : Verdict) → v ≡ Err x → r ≡ Err x → Said does (pieces ask t b n at) c buffer m mid r
-    said_stop x r w y =
+    pub said_stop : (x : Fault) (r : Verdict) → v ≡ Err x → IsErrAnd r (λ (y : Fault). y ≡ x) → Said does (pieces ask t b n at) c buffer m mid r
+    said_stop x r w i =
         from_first (b + t) (n - t) (at + 512 * t) m mid r refl refl refl
-        (said_passed (ask b (min t n) at ∷ []) (pieces ask t (b + t) (n - t) (at + 512 * t)) c m buffer mid v r x w y first)
+        (said_passed (ask b (min t n) at ∷ []) (pieces ask t (b + t) (n - t) (at + 512 * t)) c m buffer mid v r x w i first)

@@ -1,5 +1,4 @@
-use Rattle.std.proofs.Common.{ℕ, ◌/◌, List, length, Err, ap, ◌∙◌, subst, rules}
-use Rattle.std.proofs.lemmas.Result.{err_from_is_err_and}
+use Rattle.std.proofs.Common.{ℕ, ◌/◌, List, length, ap, subst, rules}
 use Rattle.transfer.specs.Tasks.{piece}
 use Rattle.transfer.specs.Asks.{read_ask, pieces}
 use Rattle.transfer.specs.Said.{Said, Outline}
@@ -8,8 +7,7 @@ use Rattle.transfer.proofs.conversation.Conversation.read.Goals as goal
 
 pub returns-in_err-flush_beside : goal.returns-in_err-flush_beside
 returns-in_err-flush_beside g c =
-    let p = err_from_is_err_and c.from_residual.result c.from_residual.ensures.1 in
-    said_passed g.D.Drive.does _ _ _ _ _ _ _ _ _ c.in_err-flush_beside.was (p.1 ∙ ap Err p.2) (c.flush_beside.ensures.said c.args.data.now)
+    said_passed g.D.Drive.does _ _ _ _ _ _ _ _ _ c.in_err-flush_beside.was c.from_residual.ensures.1 (c.flush_beside.ensures.said c.args.data.now)
 
 pub returns : goal.returns
 returns g c =

@@ -1,15 +1,13 @@
-use Rattle.std.proofs.Common.{◌+◌, ◌-◌, ◌*◌, ◌/◌, Ok, Err, sym, ap, ◌∙◌, arith}
-use Rattle.std.proofs.lemmas.Result.{err_from_is_err_and}
+use Rattle.std.proofs.Common.{◌+◌, ◌-◌, ◌*◌, ◌/◌, Ok, sym, ◌∙◌, arith}
 use Rattle.transfer.proofs.Cuts.{pieces_none}
 use Rattle.transfer.proofs.Sayings.{said_none, said_more, said_last, said_stop}
 use Rattle.transfer.proofs.conversation.Conversation.transfer.Goals as goal
 
 pub returns-in_err-ask-clause-said : goal.returns-in_err-ask-clause-said
 returns-in_err-ask-clause-said g c b =
-    let p = err_from_is_err_and c.from_residual.result c.from_residual.ensures.1 in
     let first = rw (c.loop-done.invariant.outline, c.value.ensures.is, c.min.ensures) at (c.ask.ensures.said b) in
     rw (sym c.len-count.ensures) (c.loop-done.invariant.said b _ _ _
-    (said_stop g.D.Drive.does _ _ _ _ _ _ _ _ _ _ c.args.size.some (omega arith) first _ _ c.in_err-ask.was (p.1 ∙ ap Err p.2)))
+    (said_stop g.D.Drive.does _ _ _ _ _ _ _ _ _ _ c.args.size.some (omega arith) first _ _ c.in_err-ask.was c.from_residual.ensures.1))
 
 pub returns-in_ok-ask-clause-said : goal.returns-in_ok-ask-clause-said
 returns-in_ok-ask-clause-said g c b =

@@ -1,5 +1,4 @@
-use Rattle.std.proofs.Common.{◌/◌, Bool, length, Err, ap, ◌∙◌, subst, rules}
-use Rattle.std.proofs.lemmas.Result.{err_from_is_err_and}
+use Rattle.std.proofs.Common.{◌/◌, Bool, length, subst, rules}
 use Rattle.transfer.specs.Asks.{flush_beside}
 use Rattle.transfer.specs.Said.{Said}
 use Rattle.transfer.proofs.Sayings.{said_then, said_passed}
@@ -7,9 +6,8 @@ use Rattle.transfer.proofs.conversation.Conversation.write.Goals as goal
 
 pub returns-in_err-transfer : goal.returns-in_err-transfer
 returns-in_err-transfer g c b =
-    let p = err_from_is_err_and c.from_residual.result c.from_residual.ensures.1 in
     let h = rw (c.goes_through.ensures, c.new-size.ensures, c.most.ensures) at (c.transfer.ensures.said b) in
-    said_passed g.D.Drive.does _ _ _ _ _ _ _ _ _ c.in_err-transfer.was (p.1 ∙ ap Err p.2) h
+    said_passed g.D.Drive.does _ _ _ _ _ _ _ _ _ c.in_err-transfer.was c.from_residual.ensures.1 h
 
 pub returns : goal.returns
 returns g c b =
