@@ -20,8 +20,8 @@ pub(crate) struct Conversation<'d, D> {
 }
 
 impl<'d, D: Drive> Conversation<'d, D> {
-    // Whoever begins one takes its tally out at the end. A function that took what lies between as a closure would have more
-    // clauses than the three of them have lines.
+    // Each function that holds one takes its tally out itself. One that held it round a closure was tried: its contract, of a
+    // beginning, an end and the call between them, is longer than the lines that it saves.
     pub(crate) fn new(drive: &'d mut D) -> Conversation<'d, D>
         ensures drive { result.drive.ghost_name ≡ drive.entry.ghost_name }
         ensures same { result.drive.now ≡ drive.old }
