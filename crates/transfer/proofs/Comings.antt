@@ -1,5 +1,6 @@
 -- Each command that is asked comes to its steps.
 use Rattle.std.proofs.Common.{◌≡◌, ℕ, zero, suc, ◌+◌, ◌-◌, ◌*◌, ◌<◌, ◌≤◌, Bool, true, false, List, [], ◌∷◌, length, take, drop, sym, refl, ap, ◌∙◌, zero-mul, arith, Ok}
+use Rattle.std.proofs.lemmas.List.{nil_from_length}
 use Rattle.ata.specs.declared.task.TaskFile.{TaskFile}
 use Rattle.ata.specs.declared.task.AtaCommand.TheVariants.{CheckPowerMode}
 use Rattle.ata.specs.Machine.{Content, bytes, look, Step, read_step, write_step, flush_step, idle_step, Oracle, steps}
@@ -12,10 +13,6 @@ use Rattle.transfer.specs.Asks.{plain_ask, read_ask, sent_ask}
 use Rattle.transfer.proofs.Groups.{group}
 use Rattle.transfer.proofs.Performs.{perform_read, perform_write, perform_flush, perform_idle}
 use Rattle.transfer.proofs.Plans.{Keep, Comes}
-
-empty : (xs : List ℕ) → length xs ≡ 0 → xs ≡ []
-empty [] e = refl
-empty (x ∷ xs) e = absurd (omega arith)
 
 pub reach : (w : Width) (v : Bool) → w ≡ width_of v → limit w ≡ count_limit v
 reach w true e = ap limit e
@@ -72,7 +69,7 @@ comes_write ws most w t ys b p e u h k l r =
           let z : limit w ≡ count_limit (wide s.words) = reach w (wide s.words) e2 in
           let i : blocks_of ws ≡ size s = ap blocks_of (sym keep.words) ∙ keep.formed.blocks_true in
           perform_write o s w t b p ys keep.lit e2 (λ q. ap through keep.words ∙ u q) keep.formed.through_wide h (omega arith) (omega arith) r (omega arith)
-          ∙ ap (λ (z : List ℕ). ran s z (steps o (writes t b (blocks p ys)) s.machine)) (sym (empty room n)));
+          ∙ ap (λ (z : List ℕ). ran s z (steps o (writes t b (blocks p ys)) s.machine)) (sym (nil_from_length room n)));
       few = λ o s keep. (let q = ap length (silent_steps (writes t b (blocks p ys)) o s.machine (silent_writes t b (blocks p ys))).none in omega arith);
       all = λ o s keep f. ap length (silent_steps (writes t b (blocks p ys)) o s.machine (silent_writes t b (blocks p ys))).none;
       gains_all = refl;
@@ -93,7 +90,7 @@ comes_one ws most t x still go =
       some = refl;
       long = refl;
       bytes = refl;
-      runs = λ o s room keep n. go o s keep ∙ ap (λ (z : List ℕ). ran s z (steps o (x ∷ []) s.machine)) (sym (empty room n));
+      runs = λ o s room keep n. go o s keep ∙ ap (λ (z : List ℕ). ran s z (steps o (x ∷ []) s.machine)) (sym (nil_from_length room n));
       few = λ o s keep. (let q = ap length (silent_steps (x ∷ []) o s.machine (still, tt)).none in omega arith);
       all = λ o s keep f. ap length (silent_steps (x ∷ []) o s.machine (still, tt)).none;
       gains_all = refl;

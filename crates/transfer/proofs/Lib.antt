@@ -1,5 +1,6 @@
 pub mod Talks
 pub mod Cuts
+pub mod Sayings
 pub mod Buffer
 pub mod Groups
 pub mod Plans

@@ -79,12 +79,11 @@ module _ (s : State) (gs : List Group) (ys : List Step) (at : ℕ) (buffer : Lis
   by_run o x j e f st da ve co by =
       record {
         choices = o;
-        state = subst (λ (z : Outcome). t ≡ after_commands s (commands_of gs (begun o ys s.machine)) z.machine) (sym e) (subst (λ (n : ℕ). t ≡ after_commands s (commands_of gs n) x.machine) (sym f) st);
-        data_in = subst (λ (z : Outcome). end ≡ put at z.given buffer) (sym e) da;
-        verdict = subst (λ (z : Outcome). r ≡ told_by z.end) (sym e) ve;
-        commands = subst (λ (n : ℕ). q.commands ≡ p.commands + commands_of gs n) (sym f) co;
-        bytes = subst (λ (z : Outcome). q.bytes ≡ p.bytes + bytes_by z.end (length z.given) (finished_of gs (begun o ys s.machine))) (sym e)
-            (subst (λ (n : ℕ). q.bytes ≡ p.bytes + bytes_by x.end (length x.given) (finished_of gs n)) (sym f) by);
+        state = rw (e, f) st;
+        data_in = rw e da;
+        verdict = rw e ve;
+        commands = rw f co;
+        bytes = rw (e, f) by;
       }
 
   module _ (g : Group) (hs : List Group) (groups : gs ≡ g ∷ hs) (xs zs : List Step) (cut : ys ≡ xs ++ zs) (long : length xs ≡ g.steps) (o : Oracle) where
@@ -136,7 +135,7 @@ module _ (s : State) (gs : List Group) (ys : List Step) (at : ℕ) (buffer : Lis
         let j : ℕ = begun o xs s.machine in
         let whole : run w ys s ≡ out = split w ∙ steps_join xs zs o o s.machine ∙ stays out.end out.given out.machine refl not_done in
         let counts : begun w ys s.machine ≡ j = split_begun w ∙ begun_join xs zs o o s.machine ∙ begun_stays out.end j (begun o zs out.machine) not_done in
-        let pos : 0 < j = subst (λ (z : List Step). 0 < begun o z s.machine) (sym some) (begun_some f others o s.machine) in
+        let pos : 0 < j = rw some (begun_some f others o s.machine) in
         let low : j ≤ g.steps = (let b = begun_few xs o s.machine in omega arith) in
         let cs : commands_of gs j ≡ 1 = ap (λ (z : List Group). commands_of z j) groups ∙ commands_first g hs j pos low in
         let fs : finished_of gs j ≡ 0 = ap (λ (z : List Group). finished_of z j) groups ∙ finished_first g hs j low in

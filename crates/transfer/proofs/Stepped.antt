@@ -44,12 +44,9 @@ stepped_by s gs ys commands finished buffer t end q r c f h =
       data_in = h.data_in ∙ put_start (run o ys s).given buffer;
       verdict = h.verdict;
       counted = many ∙ c j low;
-      bytes = h.bytes ∙ zero_more (bytes_by (run o ys s).end (length (run o ys s).given) (finished_of gs j))
+      bytes = h.bytes ∙ zero-add (bytes_by (run o ys s).end (length (run o ys s).given) (finished_of gs j))
           ∙ bytes_same (run o ys s).end (length (run o ys s).given) (finished_of gs j) (finished j) (λ e. f j (cut_begun ys o s.machine e) low);
     }
-  where
-    zero_more : (n : ℕ) → 0 + n ≡ n
-    zero_more n = omega arith
 
 abbrev flush_groups : Bool → ℕ → List Group
 flush_groups false n = []
@@ -160,7 +157,7 @@ module _ {D : Type 0} (does : D → Exchange → D → Type 0) (meaning : D → 
       (plan_flush s.words w most (512 * n) fua n (cut n (read_ask w) most b n 0) (base most n) (reads b n) is-width
       (plan_reads n s.words w most n b 0 (512 * n) is-width some_most (omega arith) (omega arith) (omega arith)))
       room keeps
-      (subst (λ (t : ℕ). Held does (flush_beside w fua n ++ pieces (read_ask w) t b n 0) d buffer none_yet e end q r) (piece_is s w (formed d) is-width) held))
+      (rw (piece_is s w (formed d) is-width) at held))
 
   pub write_stepped : (force : Force) (b n : ℕ) (xs : List ℕ) → b + n ≤ size s → n ≡ length xs / 512 → (goes_through force ≡ true → through s.words ≡ true) → Held does (write_asks w force (piece w most) b xs) d buffer none_yet e end q r →
       Stepped s (write_steps force b (blocks n xs)) (write_commands most n) none_finished buffer (meaning e) end q r
@@ -178,8 +175,7 @@ module _ {D : Type 0} (does : D → Exchange → D → Type 0) (meaning : D → 
       (λ j low. write_counts most n v some_most j (omega arith))
       (λ j pos low. finished_bare (cut_groups n most n 0 (flush_groups v n)) (bare_cut n most n (flush_groups v n) (flush_bare v n)) j)
       (planned does meaning formed agrees s.words most (cut n (write_ask w t xs) most b n 0 ++ flush_beside w v n) (cut_groups n most n 0 (flush_groups v n)) ys 0 0 d e buffer end none_yet q r plan (omega arith) keeps
-      (subst (λ (k : ℕ). Held does (cut k (write_ask w t xs) most b k 0 ++ flush_beside w v k) d buffer none_yet e end q r) (sym count)
-      (subst (λ (m : ℕ). Held does (pieces (write_ask w t xs) m b (length xs / 512) 0 ++ flush_beside w v (length xs / 512)) d buffer none_yet e end q r) (piece_is s w (formed d) is-width) held))))
+      (rw (piece_is s w (formed d) is-width, sym count) at held)))
     where
       flush_plan : (v : Bool) (n : ℕ) → Plan s.words most 0 0 (flush_beside w v n) (flush_groups v n) (flush_steps v n)
       flush_plan false n = (refl, omega arith)

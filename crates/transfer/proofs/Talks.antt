@@ -1,10 +1,10 @@
 -- Conversations put together: a first command and the rest, one list of commands and then another.
-use Rattle.std.proofs.Common.{◌≡◌, ℕ, List, [], ◌∷◌, ◌++◌, Ok, Err, sym, refl, ap, ◌∙◌, subst, arith}
+use Rattle.std.proofs.Common.{◌≡◌, ℕ, ◌+◌, List, [], ◌∷◌, ◌++◌, Ok, Err, sym, refl, ap, ◌∙◌, subst, arith}
 use Rattle.ata.specs.declared.answer.Answer.{Answer}
 use Rattle.ata.specs.Exchange.{Exchange, exchange}
 use Rattle.transfer.specs.declared.faults.Fault.{Fault}
 use Rattle.transfer.specs.declared.counts.Tally.{Tally}
-use Rattle.transfer.specs.Talk.{Chain, Verdict, judged, Ask, part, laid, made, goes_on, Follows, placed, after, verdict, counted, tallied, Held, Asked}
+use Rattle.transfer.specs.Talk.{Chain, Verdict, judged, Ask, part, laid, made, Follows, placed, after, verdict, counted, tallied, Held, Asked}
 
 module _ {D : Type 0} (does : D → Exchange → D → Type 0) where
   pub held_none : (d : D) (b : List ℕ) (p : Tally) → Held does [] d b p d b p (Ok tt)
@@ -18,7 +18,7 @@ module _ {D : Type 0} (does : D → Exchange → D → Type 0) where
       record {
         said = made k b back a ∷ h.said;
         chain = (m, x, h.chain);
-        follows = (refl, subst (λ (v : Verdict). goes_on v (Follows ks (laid k back b) h.said) (h.said ≡ [])) (sym j) h.follows);
+        follows = (refl, rw j h.follows);
         bytes = h.bytes;
         tally = h.tally;
         result = h.result ∙ ap (λ (v : Verdict). after v (verdict ks h.said)) (sym j);
@@ -40,41 +40,38 @@ module _ {D : Type 0} (does : D → Exchange → D → Type 0) where
       record {
         said = made k b back a ∷ [];
         chain = (e, x, refl);
-        follows = (refl, subst (λ (v : Verdict). goes_on v (Follows ks (laid k back b) []) (◌≡◌ {A = List Exchange} [] [])) (sym j) refl);
+        follows = (refl, rw j refl);
         bytes = placed_none ks (laid k back b);
         tally = tallied_none ks (counted k a p);
         result = ap (λ (v : Verdict). after v (verdict ks [])) (sym j);
       }
 
-  -- the same from what is known of one command with its part of data-in
-  module _ (k : Ask) (ks : List Ask) (d m : D) (b back before next : List ℕ) (p q : Tally) (r : Verdict)
-      (s : Asked does k d before p m back q r) (is-part : before ≡ part k b) (is-next : next ≡ laid k back b) where
-    done : does d (made k b back s.answer) m
-    done = subst (λ (z : List ℕ). does d (exchange k.task (k.carry z) back s.answer) m) is-part s.done
+  -- what is known of one command, by its numbers
+  pub asked : (k : Ask) (d m : D) (before back : List ℕ) (p q : Tally) (r : Verdict) (a : Answer) → r ≡ judged a → does d (exchange k.task (k.carry before) back a) m →
+      q.bytes ≡ p.bytes + k.gains (judged a) → q.commands ≡ p.commands + 1 → Asked does k d before p m back q r
+  asked k d m before back p q r a told done e f =
+      record {
+        answer = a;
+        done = done;
+        tally = ap (λ (z : ℕ). record { bytes = z; commands = q.commands }) e ∙ ap (λ (z : ℕ). record { bytes = p.bytes + k.gains (judged a); commands = z }) f;
+        result = told;
+      }
 
-    pub asked_more : (u : Unit {0}) → r ≡ Ok u → (e : D) (end : List ℕ) (t : Tally) (v : Verdict) → Held does ks m next q e end t v → Held does (k ∷ ks) d b p e end t v
-    asked_more u w e end t v h =
-        held_more k ks d m e b back end p t s.answer v u done (sym s.result ∙ w)
-        (subst (λ (z : Tally). Held does ks m (laid k back b) z e end t v) s.tally
-        (subst (λ (z : List ℕ). Held does ks m z q e end t v) is-next h))
-
-    pub asked_stop : (f : Fault) (v : Verdict) → r ≡ Err f → v ≡ Err f → Held does (k ∷ ks) d b p m next q v
-    asked_stop f v w x =
-        subst (λ (z : Verdict). Held does (k ∷ ks) d b p m next q z) (sym x)
-        (subst (λ (z : List ℕ). Held does (k ∷ ks) d b p m z q (Err f)) (sym is-next)
-        (subst (λ (z : Tally). Held does (k ∷ ks) d b p m (laid k back b) z (Err f)) (sym s.tally)
-        (held_stop k ks d m b back p s.answer f done (sym s.result ∙ w))))
-
-  -- one command, and nothing after it
+  -- one command, and nothing after it, from what is known of it with its part of data-in
   pub held_one : (k : Ask) (d m : D) (b back before next : List ℕ) (p q : Tally) (r : Verdict) → Asked does k d before p m back q r → before ≡ part k b → next ≡ laid k back b →
       Held does (k ∷ []) d b p m next q r
-  held_one k d m b back before next p q r s i n = by r refl
+  held_one k d m b back before next p q r s is-part is-next =
+      rw (is-next, s.tally) (by r refl)
     where
-      by : (v : Verdict) → r ≡ v → Held does (k ∷ []) d b p m next q r
+      done : does d (made k b back s.answer) m
+      done = rw is-part at s.done
+
+      by : (v : Verdict) → r ≡ v → Held does (k ∷ []) d b p m (laid k back b) (counted k s.answer p) r
       by (Ok u) w =
-          subst (λ (z : Verdict). Held does (k ∷ []) d b p m next q z) (sym w)
-          (asked_more k [] d m b back before next p q r s i n u w m next q (Ok u) (held_none m next q))
-      by (Err f) w = asked_stop k [] d m b back before next p q r s i n f r w w
+          held_more k [] d m m b back (laid k back b) p (counted k s.answer p) s.answer r u done (sym s.result ∙ w)
+          (rw w (held_none m (laid k back b) (counted k s.answer p)))
+      by (Err f) w =
+          rw w (held_stop k [] d m b back p s.answer f done (sym s.result ∙ w))
 
   -- a conversation taken apart at its first exchange
   pub record First (k : Ask) (ks : List Ask) (d : D) (b : List ℕ) (p : Tally) (e : D) (end : List ℕ) (q : Tally) (r : Verdict) : Type 0 where
@@ -99,14 +96,14 @@ module _ {D : Type 0} (does : D → Exchange → D → Type 0) where
             well = λ u j. record {
               said = xs;
               chain = c.2;
-              follows = subst (λ (z : Verdict). goes_on z (Follows ks (laid k x.back b) xs) (xs ≡ [])) j f.1;
+              follows = rw j at f.1;
               bytes = g;
               tally = t;
               result = v ∙ ap (λ (z : Verdict). after z (verdict ks xs)) j;
             };
             badly = λ u j.
-                let z : xs ≡ [] = subst (λ (z : Verdict). goes_on z (Follows ks (laid k x.back b) xs) (xs ≡ [])) j f.1 in (
-                  subst (λ (ys : List Exchange). Chain does c.0 ys e) z c.2,
+                let z : xs ≡ [] = rw j at f.1 in (
+                  rw z at c.2,
                   g ∙ ap (λ (ys : List Exchange). placed ks ys (laid k x.back b)) z ∙ sym (placed_none ks (laid k x.back b)),
                   t ∙ ap (λ (ys : List Exchange). tallied ks ys (counted k x.answer p)) z ∙ sym (tallied_none ks (counted k x.answer p)),
                   v ∙ ap (λ (z : Verdict). after z (verdict ks xs)) j,
@@ -128,9 +125,7 @@ module _ {D : Type 0} (does : D → Exchange → D → Type 0) where
       Held does ks d b p m mid t v → Held does ls m mid t e end q r → Held does (ks ++ ls) d b p e end q r
   held_then [] ls d m e b mid end p t q v r u w h n =
       let z = held_nil d m b mid p t v h in
-      subst (λ (x : D). Held does ls x b p e end q r) (sym z.0)
-      (subst (λ (x : List ℕ). Held does ls m x p e end q r) z.1
-      (subst (λ (x : Tally). Held does ls m mid x e end q r) z.2 n))
+      rw (z.0, sym z.1, sym z.2) n
   held_then (k ∷ ks) ls d m e b mid end p t q v r u w h n =
       let f = held_first k ks d m b mid p t v h in
       by f (judged f.answer) refl
@@ -161,14 +156,10 @@ module _ {D : Type 0} (does : D → Exchange → D → Type 0) where
           (more (laid k f.back b) (counted k f.answer p) (f.well y j))
       by f (Err y) j more =
           let z = f.badly y j in
-          subst (λ (g : D). Held does ((k ∷ ks) ++ ls) d b p g end q r) z.0
-          (subst (λ (g : List ℕ). Held does ((k ∷ ks) ++ ls) d b p f.mid g q r) (sym z.1)
-          (subst (λ (g : Tally). Held does ((k ∷ ks) ++ ls) d b p f.mid (laid k f.back b) g r) (sym z.2)
-          (subst (λ (g : Verdict). Held does ((k ∷ ks) ++ ls) d b p f.mid (laid k f.back b) (counted k f.answer p) g) (sym z.3)
-          (held_stop k (ks ++ ls) d f.mid b f.back p f.answer y f.done j))))
+          rw (sym z.0, z.1, z.2, z.3) (held_stop k (ks ++ ls) d f.mid b f.back p f.answer y f.done j)
 
   -- the same for whoever passes the fault on
   pub held_passed : (ks ls : List Ask) (d e : D) (b end : List ℕ) (p q : Tally) (r v : Verdict) (x : Fault) → r ≡ Err x → v ≡ Err x →
       Held does ks d b p e end q r → Held does (ks ++ ls) d b p e end q v
   held_passed ks ls d e b end p q r v x w y h =
-      subst (λ (z : Verdict). Held does (ks ++ ls) d b p e end q z) (w ∙ sym y) (held_fail ks ls d e b end p q r x w h)
+      rw (y, sym w) (held_fail ks ls d e b end p q r x w h)

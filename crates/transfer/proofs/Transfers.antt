@@ -88,9 +88,6 @@ module _ (ws : List ℕ) (w : Width) (through-it : Bool) (xs : List ℕ) (t to :
         comes_write ws t w through-it mine b p e can (omega arith) (omega arith) (omega arith) long,
         whole,
         refl,
-        (let z = plan_low ks gs zs rest in omega arith),
+        omega arith,
         plan_writes f m (b + p) (at + 512 * p) (omega arith) (omega arith) (omega arith),
       )
-    where
-      plan_low : (ks : List Ask) (gs : List Group) (zs : List Step) → Plan ws t 0 to ks gs zs → 0 ≤ to
-      plan_low ks gs zs h = omega arith

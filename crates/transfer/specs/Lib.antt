@@ -1,4 +1,5 @@
 pub mod Tasks
 pub mod Talk
 pub mod Asks
+pub mod Said
 pub mod Steps

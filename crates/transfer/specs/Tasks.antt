@@ -12,6 +12,11 @@ abbrev pub width_of : Bool → Width
 width_of true = Bits48
 width_of false = Bits28
 
+-- of a pair, the one for a width
+abbrev pub by_width : {A : Type 0} → Width → A → A → A
+by_width Bits28 x y = x
+by_width Bits48 x y = y
+
 -- how many blocks the count of a command can name
 abbrev pub limit : Width → ℕ
 limit Bits28 = 256

@@ -1,7 +1,11 @@
 //! What a command has come to so far.
 
 ghost use Rattle.std.specs.Prelude.{◌≡◌, ◌+◌, ◌^◌, ◌<◌};
-ghost use Rattle.transfer.specs.Talk.{none_yet};
+ghost use Rattle.transfer.specs.Talk.{judged, none_yet};
+
+use crate::ask::judge;
+use crate::faults::Fault;
+use ata::Answer;
 
 /// The bytes put into data-in, and the ATA commands sent.
 #[derive(Clone, Copy)]
@@ -20,10 +24,15 @@ impl Tally {
         }
     }
 
-    pub(crate) fn count_command(&mut self)
+    // That the count has room is known where the number of pieces is known, and is asked for up to there.
+    /// Counts a command by its answer, and judges it.
+    pub(crate) fn hear(&mut self, answer: Answer) -> Result<(), Fault>
         requires { self.old.commands + 1 < 2 ^ 64 }
-        ensures { self.new ≡ record { bytes = self.old.bytes; commands = self.old.commands + 1 } }
+        ensures commands { self.new.commands ≡ self.old.commands + 1 }
+        ensures bytes { self.new.bytes ≡ self.old.bytes }
+        ensures judged { result ≡ judged answer }
     {
         self.commands += 1;
+        judge(answer)
     }
 }

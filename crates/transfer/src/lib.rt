@@ -4,9 +4,11 @@
 
 mod address;
 mod ask;
+mod conversation;
 mod counts;
 mod faults;
 mod orders;
+mod pieces;
 mod reading;
 mod tasks;
 mod writing;

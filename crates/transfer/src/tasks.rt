@@ -1,7 +1,7 @@
 //! The task files that a translator sends.
 
-ghost use Rattle.std.specs.Prelude.{◌≡◌, ◌<◌, ◌≤◌};
-ghost use Rattle.transfer.specs.Tasks.{limit, read_task, write_task, flush_task, piece};
+ghost use Rattle.std.specs.Prelude.{◌≡◌, ◌≤◌};
+ghost use Rattle.transfer.specs.Tasks.{by_width, limit, task, read_task, write_task, flush_task};
 
 use ata::{AtaCommand, Feature, TaskFile};
 
@@ -12,46 +12,58 @@ pub enum Width {
     Bits48,
 }
 
-fn count_limit(width: Width) -> usize
-    ensures value { result ≡ limit width }
-    ensures bound { result ≤ 65536 }
-    ensures some { 256 ≤ result }
+impl Width {
+    /// Of a pair, the one for this width.
+    fn of<T: Copy>(self, bits28: T, bits48: T) -> T
+        ensures { result ≡ by_width self bits28 bits48 }
+    {
+        match self {
+            Width::Bits28 => bits28,
+            Width::Bits48 => bits48,
+        }
+    }
+
+    /// How many blocks a command can name.
+    pub(crate) fn count_limit(self) -> usize
+        ensures value { result ≡ limit self }
+        ensures bound { result ≤ 65536 }
+        ensures some { 256 ≤ result }
+    {
+        self.of(256, 65536)
+    }
+}
+
+fn task(command: AtaCommand, count: u16, block: u64) -> TaskFile
+    ensures { result ≡ task command count block }
 {
-    match width {
-        Width::Bits28 => 256,
-        Width::Bits48 => 65536,
+    TaskFile {
+        command,
+        feature: Feature::Absent,
+        count,
+        block,
     }
 }
 
 fn transfer_task(width: Width, command: AtaCommand, block: u64, count: usize) -> TaskFile
     ensures { result ≡ Rattle.transfer.specs.Tasks.transfer_task width command block count }
 {
-    let field = count % count_limit(width);
-    TaskFile {
-        command,
-        feature: Feature::Absent,
-        count: field as u16,
-        block,
-    }
+    task(command, (count % width.count_limit()) as u16, block)
 }
 
 pub(crate) fn read_task(width: Width, block: u64, count: usize) -> TaskFile
     ensures { result ≡ read_task width block count }
 {
-    let command = match width {
-        Width::Bits28 => AtaCommand::ReadDma,
-        Width::Bits48 => AtaCommand::ReadDmaExt,
-    };
+    let command = width.of(AtaCommand::ReadDma, AtaCommand::ReadDmaExt);
     transfer_task(width, command, block, count)
 }
 
 pub(crate) fn write_task(width: Width, through: bool, block: u64, count: usize) -> TaskFile
     ensures { result ≡ write_task width through block count }
 {
-    let command = match (through, width) {
-        (true, _) => AtaCommand::WriteDmaFuaExt,
-        (false, Width::Bits28) => AtaCommand::WriteDma,
-        (false, Width::Bits48) => AtaCommand::WriteDmaExt,
+    let command = if through {
+        AtaCommand::WriteDmaFuaExt
+    } else {
+        width.of(AtaCommand::WriteDma, AtaCommand::WriteDmaExt)
     };
     transfer_task(width, command, block, count)
 }
@@ -59,22 +71,6 @@ pub(crate) fn write_task(width: Width, through: bool, block: u64, count: usize) 
 pub(crate) fn flush_task(width: Width) -> TaskFile
     ensures { result ≡ flush_task width }
 {
-    let command = match width {
-        Width::Bits28 => AtaCommand::FlushCache,
-        Width::Bits48 => AtaCommand::FlushCacheExt,
-    };
-    TaskFile {
-        command,
-        feature: Feature::Absent,
-        count: 0,
-        block: 0,
-    }
-}
-
-/// How many blocks go in a piece, to a drive that takes `most`.
-pub(crate) fn piece_size(width: Width, most: u32) -> usize
-    ensures value { result ≡ piece width most }
-    ensures some { 0 < result }
-{
-    (most.max(1) as usize).min(count_limit(width))
+    let command = width.of(AtaCommand::FlushCache, AtaCommand::FlushCacheExt);
+    task(command, 0, 0)
 }

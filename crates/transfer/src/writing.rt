@@ -1,16 +1,17 @@
 //! WRITE: blocks to the drive, in pieces.
 
-ghost use Rattle.std.specs.Prelude.{◌≡◌, ℕ, ◌+◌, ◌*◌, ◌/◌, ◌^◌, ◌<◌, ◌≤◌, Bool, List, [], length};
+ghost use Rattle.std.specs.Prelude.{◌≡◌, ℕ, ◌+◌, ◌*◌, ◌/◌, ◌^◌, ◌<◌, ◌≤◌, Bool, List, [], ◌∷◌, length};
 ghost use Rattle.transfer.specs.Tasks.{piece};
 ghost use Rattle.transfer.specs.Talk.{Held, none_yet};
-ghost use Rattle.transfer.specs.Asks.{write_ask, pieces, write_asks, goes_through, is_flushed};
+ghost use Rattle.transfer.specs.Asks.{write_ask, write_asks, goes_through, is_flushed};
+ghost use Rattle.transfer.specs.Said.{Said, Outline};
 
 use crate::address::Lba;
-use crate::ask::ask_write;
+use crate::conversation::Conversation;
 use crate::counts::Tally;
 use crate::faults::Fault;
-use crate::orders::flush_beside;
-use crate::tasks::{Width, piece_size};
+use crate::pieces::{Piece, PieceSize, TransferData};
+use crate::tasks::{Width, write_task};
 use ata::Drive;
 
 /// How a WRITE is to reach the medium: when the drive likes, through the cache, or by a flush after it.
@@ -35,57 +36,45 @@ impl Force {
     }
 }
 
-// The pieces, of at most `size` blocks, each with its own part of `data`.
-fn write_pieces<D: Drive>(
-    drive: &mut D,
+/// Data to the drive, by commands of one width, through the cache or into it.
+#[derive(Drop)]
+struct DataOut<'a> {
     width: Width,
     through: bool,
-    size: usize,
-    block: u64,
-    data: &[u8],
-    tally: &mut Tally,
-) -> Result<(), Fault>
-    requires some { 0 < size }
-    requires low { block < 2 ^ 48 }
-    requires fresh { tally.old ≡ none_yet }
-    ensures talk { (b : List ℕ) → Held D.Drive.does (pieces (write_ask width through «data».now) size block (length «data».now / 512) 0) drive.old b tally.old drive.new b tally.new result }
-    ensures few { tally.new.commands ≤ length «data».now / 512 }
-{
-    let count = data.len() / 512;
-    let mut done: usize = 0;
-    while done < count {
-        let some = size.min(count - done);
-        let from = 512 * done;
-        let to = from + 512 * some;
-        ask_write(
-            drive,
-            width,
-            through,
-            block + done as u64,
-            some,
-            &data[from..to],
-            tally,
-        )?;
-        done += some;
-    }
-    Ok(())
+    bytes: &'a [u8],
 }
 
-fn write_by<D: Drive>(
-    drive: &mut D,
-    width: Width,
-    force: Force,
-    block: u64,
-    data: &[u8],
-    tally: &mut Tally,
-) -> Result<(), Fault>
-    requires low { block < 2 ^ 48 }
-    requires fresh { tally.old ≡ none_yet }
-    ensures { (b : List ℕ) → Held D.Drive.does (write_asks width force (piece width (D.Drive.meaning drive.old).most) block «data».now) drive.old b tally.old drive.new b tally.new result }
-{
-    let size = piece_size(width, drive.most());
-    write_pieces(drive, width, force.goes_through(), size, block, data, tally)?;
-    flush_beside(drive, width, force.is_flushed(), data.len() / 512, tally)
+impl TransferData for DataOut<'_> {
+    ghost outline = { λ s. record { asks = write_ask s.width s.through s.bytes.now; bytes = length s.bytes.now; borrow = 0 } };
+
+    ghost data_in = { λ s b. b };
+
+    fn len(&self) -> usize {
+        self.bytes.len()
+    }
+
+    fn ask<D: Drive>(&mut self, talk: &mut Conversation<D>, piece: Piece) -> Result<(), Fault> {
+        let task = write_task(self.width, self.through, piece.block, piece.count);
+        let part = piece.bytes();
+        let answer = talk.drive.data_out(task, &self.bytes[part]);
+        talk.tally.hear(answer)
+    }
+}
+
+impl<D: Drive> Conversation<'_, D> {
+    fn write(&mut self, width: Width, force: Force, start: Lba, data: &[u8]) -> Result<(), Fault>
+        requires fresh { self.old.tally ≡ none_yet }
+        ensures { (b : List ℕ) → Said D.Drive.does (write_asks width force (piece width (D.Drive.meaning self.old.drive.now).most) start.value «data».now) self.old b self.new b result }
+    {
+        let size = PieceSize::new(width, self.drive.most());
+        let mut data_out = DataOut {
+            width,
+            through: force.goes_through(),
+            bytes: data,
+        };
+        self.transfer(start, size, &mut data_out)?;
+        self.flush_beside(width, force.is_flushed(), data.len() / 512)
+    }
 }
 
 /// Writes the whole blocks of `data` from `start` on.
@@ -98,7 +87,7 @@ pub fn write<D: Drive>(
 ) -> (Tally, Result<(), Fault>)
     ensures { (b : List ℕ) → Held D.Drive.does (write_asks width force (piece width (D.Drive.meaning drive.old).most) start.value «data».now) drive.old b none_yet drive.new b result.0 result.1 }
 {
-    let mut tally = Tally::new();
-    let verdict = write_by(drive, width, force, start.value(), data, &mut tally);
-    (tally, verdict)
+    let mut talk = Conversation::new(drive);
+    let verdict = talk.write(width, force, start, data);
+    (talk.tally, verdict)
 }
