@@ -12,25 +12,25 @@ use Rattle.unit.specs.declared.standing.Phase.{Phase}
 use Rattle.unit.specs.declared.standing.Phase.TheVariants.{Unfit, Attention, Ready}
 use Rattle.unit.specs.Courses.{Course, refused, course, taken_in, in_phase, course_of, past, phase_after, calm}
 
-module _ (f : Facts) (p : Phase) (most : ℕ) (cdb out : List ℕ) (room : ℕ) (q : Request) (taken : received cdb ≡ Ok q) where
+module _ (p : Phase) (most : ℕ) (cdb out : List ℕ) (room : ℕ) (q : Request) (taken : received cdb ≡ Ok q) where
   abbrev by : Bool → Bool → Course
-  by a b = cond a (refused DataOutShort) (cond b (refused DataInShort) (in_phase f p most out q.command))
+  by a b = cond a (refused DataOutShort) (cond b (refused DataInShort) (in_phase p most out q.command))
 
-  in_request : course f p most cdb out room ≡ by (ltb (length out) q.out) (ltb room q.into)
-  in_request = ap (taken_in f p most out room) taken
+  in_request : course p most cdb out room ≡ by (ltb (length out) q.out) (ltb room q.into)
+  in_request = ap (taken_in p most out room) taken
 
-  pub out_short : length out < q.out → course f p most cdb out room ≡ refused DataOutShort
+  pub out_short : length out < q.out → course p most cdb out room ≡ refused DataOutShort
   out_short h =
       let e : ltb (length out) q.out ≡ true = grind (arith, nat_tests) in
       in_request ∙ ap (λ (v : Bool). by v (ltb room q.into)) e
 
-  pub in_short : q.out ≤ length out → room < q.into → course f p most cdb out room ≡ refused DataInShort
+  pub in_short : q.out ≤ length out → room < q.into → course p most cdb out room ≡ refused DataInShort
   in_short h i =
       let e : ltb (length out) q.out ≡ false = grind (arith, nat_tests) in
       let e2 : ltb room q.into ≡ true = grind (arith, nat_tests) in
       in_request ∙ ap (λ (v : Bool). by v (ltb room q.into)) e ∙ ap (λ (v : Bool). by false v) e2
 
-  pub with_both : q.out ≤ length out → q.into ≤ room → course f p most cdb out room ≡ in_phase f p most out q.command
+  pub with_both : q.out ≤ length out → q.into ≤ room → course p most cdb out room ≡ in_phase p most out q.command
   with_both h i =
       let e : ltb (length out) q.out ≡ false = grind (arith, nat_tests) in
       let e2 : ltb room q.into ≡ false = grind (arith, nat_tests) in
@@ -47,8 +47,8 @@ calm_course f most out ReadCapacity p = refl
 calm_course f most out (Read fua x) p = calm_either (past f x) _ _ p refl refl
 calm_course f most out (Write fua x) p = calm_either (past f x) _ _ p refl refl
 
-pub calmed : (f : Facts) (p : Phase) (most : ℕ) (out : List ℕ) (c : Result Command Sense) → phase_after (in_phase f p most out c) p ≡ calm p
-calmed f Unfit most out c = refl
-calmed f Attention most out c = refl
-calmed f Ready most out (Err s) = refl
-calmed f Ready most out (Ok c) = calm_course f most out c Ready
+pub calmed : (p : Phase) (most : ℕ) (out : List ℕ) (c : Result Command Sense) → phase_after (in_phase p most out c) p ≡ calm p
+calmed Unfit most out c = refl
+calmed (Attention f) most out c = refl
+calmed (Ready f) most out (Err s) = refl
+calmed (Ready f) most out (Ok c) = calm_course f most out c (Ready f)

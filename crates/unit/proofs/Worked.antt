@@ -7,6 +7,7 @@ use Rattle.ata.proofs.Ranges.{length_blocks}
 use Rattle.sense.specs.declared.refusal.Refusal.{Refusal}
 use Rattle.cdb.specs.declared.command.Extent.{Extent}
 use Rattle.transfer.specs.declared.counts.Tally.{Tally}
+use Rattle.transfer.specs.declared.faults.Fault.{Fault}
 use Rattle.transfer.specs.Tasks.{piece}
 use Rattle.transfer.specs.Talk.{Verdict, Held, none_yet}
 use Rattle.transfer.specs.Asks.{read_asks, write_asks, goes_through}
@@ -29,7 +30,7 @@ through_claimed true true e = refl
 through_claimed true false e = e
 
 module _ {D : Type 0} (does : D → Exchange → D → Type 0) (meaning : D → State) (formed : (x : D) → Formed (meaning x)) (agrees : (x : D) (e : Exchange) (y : D) → does x e y → Agrees (meaning x) e (meaning y))
-    (f : Facts) (d e : D) (b end : List ℕ) (q : Tally) (v : Verdict) (b' : List ℕ) (r : Result Reply Refusal) (knows : Knows f (meaning d)) (is-r : r ≡ Ok (replied v q)) where
+    (f : Facts) (d e : D) (b end : List ℕ) (q : Tally) (v : Verdict) (b' : List ℕ) (r : Result (Reply Fault) Refusal) (knows : Knows f (meaning d)) (is-r : r ≡ Ok (replied v q)) where
   pub read_worked : (fua : Bool) (x : Extent) (start : ℕ) → InRange f x start → 512 * x.count ≤ length b → b' ≡ end ++ drop (512 * x.count) b →
       Held does (read_asks f.width fua (piece f.width (meaning d).most) x.block x.count) d (take (512 * x.count) b) none_yet e end q v →
       ((meaning d).machine.lit ≡ true → Lit (read_work (meaning d).most fua x.block x.count) (512 * x.count) (meaning d) b (meaning e) b' r)
