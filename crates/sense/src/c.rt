@@ -15,7 +15,7 @@ use crate::table::result;
 pub fn sense_result(status: u8, error: u8) -> SenseValues
     ensures { result ≡ values_of (result_of status error) }
 {
-    result(status, error).values()
+    result(status, error).into()
 }
 
 /// Writes the sense data, without the block where `block` is 2^32 or more. Returns 0, or the number of the refusal.
@@ -30,6 +30,6 @@ pub fn sense_write(out: &mut [u8], key: u8, code: u8, qualifier: u8, block: u64)
     };
     match write_sense(out, values, Some(block)) {
         Ok(()) => 0,
-        Err(refusal) => u32::from(refusal.number()),
+        Err(refusal) => u32::from(u8::from(refusal)),
     }
 }

@@ -38,12 +38,12 @@ pub enum Sense {
     PastEnd,
 }
 
-impl Sense {
+impl From<Sense> for SenseValues {
+    ghost from_gives = { λ sense values. values ≡ values_of sense };
+
     /// The values of the case.
-    pub fn values(self) -> SenseValues
-        ensures { result ≡ values_of self }
-    {
-        let (key, code, qualifier) = match self {
+    fn from(sense: Sense) -> SenseValues {
+        let (key, code, qualifier) = match sense {
             Sense::NoSense => (0, 0x00, 0x00),
             Sense::NoAnswer => (4, 0x08, 0x00),
             Sense::DeviceFault => (4, 0x44, 0x00),

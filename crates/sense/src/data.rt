@@ -40,8 +40,8 @@ fn fixed_format(first: u8, information: u32, values: SenseValues) -> [u8; SENSE_
 fn sense_bytes(values: SenseValues, block: Option<u64>) -> [u8; SENSE_LENGTH]
     ensures { result ≡ sense_data values block }
 {
-    match block {
-        Some(block) if block < 0x1_0000_0000 => fixed_format(0xF0, block as u32, values),
+    match block.map(u32::try_from) {
+        Some(Ok(information)) => fixed_format(0xF0, information, values),
         _ => fixed_format(0x70, 0, values),
     }
 }

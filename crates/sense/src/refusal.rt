@@ -11,15 +11,17 @@ pub enum Refusal {
     DataOutShort = 2,
     /// The data-in buffer is too short.
     DataInShort = 3,
+    /// Each place of the run sheet holds a line.
+    SheetFull = 5,
     /// The sense buffer is too short.
     SenseBufferShort = 6,
 }
 
-impl Refusal {
+impl From<Refusal> for u8 {
+    ghost from_gives = { λ refusal number. number ≡ number_of refusal };
+
     /// The number of the refusal.
-    pub fn number(self) -> u8
-        ensures { result ≡ number_of self }
-    {
-        self as u8
+    fn from(refusal: Refusal) -> u8 {
+        refusal as u8
     }
 }
