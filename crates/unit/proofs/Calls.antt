@@ -1,5 +1,5 @@
 -- The course of a call, by what its request needs of the buffers.
-use Rattle.std.proofs.Common.{◌≡◌, ℕ, ◌<◌, ◌≤◌, Bool, true, false, cond, ltb, List, length, Ok, Err, Result, refl, ap, ◌∙◌, arith}
+use Rattle.std.proofs.Common.{◌≡◌, ℕ, ◌≤◌, Bool, true, false, cond, ltb, List, length, Ok, Err, Result, refl, ap, ◌∙◌, arith}
 use Rattle.std.proofs.lemmas.Bool.Decides.{nat_tests}
 use Rattle.sense.specs.declared.refusal.Refusal.TheVariants.{DataOutShort, DataInShort}
 use Rattle.sense.specs.declared.case.Sense.{Sense}
@@ -18,17 +18,6 @@ module _ (p : Phase) (most : ℕ) (cdb out : List ℕ) (room : ℕ) (q : Request
 
   in_request : course p most cdb out room ≡ by (ltb (length out) q.out) (ltb room q.into)
   in_request = ap (taken_in p most out room) taken
-
-  pub out_short : length out < q.out → course p most cdb out room ≡ refused DataOutShort
-  out_short h =
-      let e : ltb (length out) q.out ≡ true = grind (arith, nat_tests) in
-      in_request ∙ ap (λ (v : Bool). by v (ltb room q.into)) e
-
-  pub in_short : q.out ≤ length out → room < q.into → course p most cdb out room ≡ refused DataInShort
-  in_short h i =
-      let e : ltb (length out) q.out ≡ false = grind (arith, nat_tests) in
-      let e2 : ltb room q.into ≡ true = grind (arith, nat_tests) in
-      in_request ∙ ap (λ (v : Bool). by v (ltb room q.into)) e ∙ ap (λ (v : Bool). by false v) e2
 
   pub with_both : q.out ≤ length out → q.into ≤ room → course p most cdb out room ≡ in_phase p most out q.command
   with_both h i =

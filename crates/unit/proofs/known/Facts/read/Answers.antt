@@ -1,4 +1,4 @@
-use Rattle.std.proofs.Common.{◌≡◌, ℕ, ◌-◌, ◌*◌, ◌/◌, Bool, cond, List, ◌++◌, length, take, drop, Ok, sym, refl, ap, subst, arith}
+use Rattle.std.proofs.Common.{◌≡◌, ℕ, ◌-◌, ◌*◌, ◌/◌, Bool, cond, List, ◌++◌, length, take, drop, Ok, sym, ap, subst, arith}
 use Rattle.sense.specs.declared.case.Sense.TheVariants.{PastEnd}
 use Rattle.transfer.specs.declared.faults.Place.TheVariants.{Cdb}
 use Rattle.transfer.specs.Tasks.{piece}
