@@ -1,7 +1,6 @@
 -- The course of a call, by what its request needs of the buffers.
 use Rattle.std.proofs.Common.{◌≡◌, ℕ, ◌≤◌, Bool, true, false, cond, ltb, List, length, Ok, Err, Result, refl, ap, ◌∙◌, arith}
 use Rattle.std.proofs.lemmas.Bool.Decides.{nat_tests}
-use Rattle.sense.specs.declared.refusal.Refusal.TheVariants.{DataOutShort, DataInShort}
 use Rattle.sense.specs.declared.case.Sense.{Sense}
 use Rattle.cdb.specs.declared.command.Command.{Command}
 use Rattle.cdb.specs.declared.command.Command.TheVariants.{TestUnitReady, ReadCapacity, Read, Write}
@@ -10,20 +9,14 @@ use Rattle.cdb.specs.Requests.{received}
 use Rattle.unit.specs.declared.known.Facts.{Facts}
 use Rattle.unit.specs.declared.standing.Phase.{Phase}
 use Rattle.unit.specs.declared.standing.Phase.TheVariants.{Unfit, Attention, Ready}
-use Rattle.unit.specs.Courses.{Course, refused, course, taken_in, in_phase, course_of, past, phase_after, calm}
+use Rattle.unit.specs.Courses.{Course, course, taken_in, in_phase, course_of, past, phase_after, calm}
 
 module _ (p : Phase) (most : ℕ) (cdb out : List ℕ) (room : ℕ) (q : Request) (taken : received cdb ≡ Ok q) where
-  abbrev by : Bool → Bool → Course
-  by a b = cond a (refused DataOutShort) (cond b (refused DataInShort) (in_phase p most out q.command))
-
-  in_request : course p most cdb out room ≡ by (ltb (length out) q.out) (ltb room q.into)
-  in_request = ap (taken_in p most out room) taken
-
   pub with_both : q.out ≤ length out → q.into ≤ room → course p most cdb out room ≡ in_phase p most out q.command
   with_both h i =
       let e : ltb (length out) q.out ≡ false = grind (arith, nat_tests) in
       let e2 : ltb room q.into ≡ false = grind (arith, nat_tests) in
-      in_request ∙ ap (λ (v : Bool). by v (ltb room q.into)) e ∙ ap (λ (v : Bool). by false v) e2
+      ap (taken_in p most out room) taken ∙ rw e (rw e2 refl)
 
 -- past the buffers nothing is turned away by number, so an attention ends
 calm_either : (v : Bool) (k l : Course) (p : Phase) → phase_after k p ≡ calm p → phase_after l p ≡ calm p → phase_after (cond v k l) p ≡ calm p

@@ -57,7 +57,7 @@ impl Facts {
         ensures reply { result ≡ Good (record { bytes = 8; commands = 0 }) }
         ensures buffer { into.new ≡ over (capacity_data self.now.blocks) into.old }
     {
-        into[0..8].copy_from_slice(&capacity_data(self));
+        into[..8].copy_from_slice(&capacity_data(self));
         Reply::Good(Tally {
             bytes: 8,
             commands: 0,
@@ -78,7 +78,7 @@ impl Facts {
             None => Reply::stopped(Place::Cdb, Sense::PastEnd),
             Some(start) => {
                 let length = 512 * extent.count as usize;
-                let (tally, verdict) = read(drive, self.width, fua, start, &mut into[0..length]);
+                let (tally, verdict) = read(drive, self.width, fua, start, &mut into[..length]);
                 Reply::from_drive(tally, verdict)
             }
         }
@@ -93,7 +93,7 @@ impl Facts {
             Some(start) => {
                 let length = 512 * extent.count as usize;
                 let how = force(fua, self.through);
-                let (tally, verdict) = write(drive, self.width, how, start, &out[0..length]);
+                let (tally, verdict) = write(drive, self.width, how, start, &out[..length]);
                 Reply::from_drive(tally, verdict)
             }
         }
