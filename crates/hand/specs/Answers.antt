@@ -3,11 +3,11 @@ use Rattle.std.specs.Prelude.{◌≡◌, ℕ, List, [], ◌∷◌, ◌++◌, Ok,
 use Rattle.ata.specs.Commands.{State}
 use Rattle.ata.specs.Exchange.{Exchange}
 use Rattle.sense.specs.declared.refusal.Refusal.{Refusal}
-use Rattle.slips.specs.Commanded.{Commanded}
 use Rattle.slips.specs.declared.attached.Unit.{Unit as Bay}
 use Rattle.slips.specs.declared.slips.Slip.{Slip}
 use Rattle.slips.specs.declared.slips.Line.{Line}
 use Rattle.slips.specs.Slips.{line_of, inner_reply, Numbered}
+use Rattle.unit.specs.Commanded.{Commanded}
 use Rattle.unit.specs.declared.replies.Reply.{Reply}
 use Rattle.unit.specs.declared.replies.Reply.TheVariants.{Good, Check}
 

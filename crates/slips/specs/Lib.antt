@@ -1,4 +1,3 @@
--- What the contracts of this crate cite: what a command comes to, slips, the run sheet.
-pub mod Commanded
+-- What the contracts of this crate cite: slips, the run sheet.
 pub mod Slips
 pub mod Sheets

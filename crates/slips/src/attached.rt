@@ -2,7 +2,7 @@
 
 ghost use Rattle.std.specs.Prelude.{◌≡◌, ℕ};
 ghost use Rattle.unit.specs.Attached.{Identified};
-ghost use Rattle.slips.specs.Commanded.{Commanded, Truthful};
+ghost use Rattle.unit.specs.Commanded.{Commanded, Truthful};
 ghost use Rattle.slips.specs.Slips.{line_of, next_number, inner_reply, Numbered};
 
 use crate::slips::Slip;

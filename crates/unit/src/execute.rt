@@ -5,12 +5,11 @@ ghost use Rattle.ata.specs.Commands.{over};
 ghost use Rattle.cdb.specs.declared.command.Command.TheVariants.{Read, Write};
 ghost use Rattle.unit.specs.declared.replies.Reply.TheVariants.{Good};
 ghost use Rattle.unit.specs.Capacity.{capacity_data};
-ghost use Rattle.unit.specs.Courses.{Comes, asks, course, phase_after, calm, in_phase, course_of, force_by, power_check};
+ghost use Rattle.unit.specs.Courses.{Comes, asks, calm, in_phase, course_of, force_by, power_check};
+ghost use Rattle.unit.specs.Commanded.{Commanded};
 ghost use Rattle.transfer.specs.Steps.{idle_work};
 ghost use Rattle.transfer.specs.Tasks.{task};
-ghost use Rattle.unit.specs.Attached.{Remembers};
 ghost use Rattle.cdb.specs.Rooms.{Room};
-ghost use Rattle.unit.specs.Works.{Works};
 
 use crate::attach::Unit;
 use crate::capacity::capacity_data;
@@ -132,10 +131,7 @@ impl<D: Drive> Unit<D> {
         out: &[u8],
         into: &mut [u8],
     ) -> Result<Reply<Fault>, Refusal>
-        ensures came { Comes D.Drive.does (course self.old.phase (D.Drive.meaning self.old.drive).most cdb.now out.now (length into.old)) self.old.drive into.old self.new.drive into.new result }
-        ensures works { Remembers self.old.phase (D.Drive.meaning self.old.drive) → Works (course self.old.phase (D.Drive.meaning self.old.drive).most cdb.now out.now (length into.old)) (D.Drive.meaning self.old.drive) into.old (D.Drive.meaning self.new.drive) into.new result }
-        ensures remembers { Remembers self.old.phase (D.Drive.meaning self.old.drive) → Remembers self.new.phase (D.Drive.meaning self.new.drive) }
-        ensures phase { self.new.phase ≡ phase_after (course self.old.phase (D.Drive.meaning self.old.drive).most cdb.now out.now (length into.old)) self.old.phase }
+        ensures { Commanded D.Drive.does D.Drive.meaning self.old cdb.now out.now into.old self.new into.new result }
     {
         let request = receive(cdb)?;
         if out.len() < request.out {

@@ -1,31 +1,31 @@
-use Rattle.std.proofs.Common.{length, sym, ◌∙◌, Ok}
+use Rattle.std.proofs.Common.{◌≡◌, length, sym, ◌∙◌, Ok}
 use Rattle.cdb.proofs.Rooms.{received_room}
-use Rattle.unit.specs.Courses.{course}
+use Rattle.unit.specs.Courses.{Course, phase_after}
+use Rattle.unit.specs.Commanded.{course_from, Truthful}
+use Rattle.unit.specs.Works.{Works}
 use Rattle.unit.proofs.Commanded.{phase_works, remembers_on}
 use Rattle.unit.proofs.Calls.{with_both, calmed}
 use Rattle.unit.proofs.attach.Unit.command.Goals as goal
 
-pub returns-clause-works : goal.returns-clause-works
-returns-clause-works g c h =
+pub returns : goal.returns
+returns g c =
     let u = c.args.self.now in
+    let w = c.obey.new.self in
+    let out = c.args.out.now in
     let b = c.args.into.now in
+    let r = Ok c.obey.result in
+    let s = g.D.Drive.meaning u.drive in
     let q = c.in_ok-request.request in
     let taken = sym c.receive.ensures ∙ c.in_ok-request.was in
-    let room = received_room c.args.cdb.now q (length c.args.out.now) (length b) taken c.if-out-request.false c.if-into-request.false in
-    rw (with_both u.phase (g.D.Drive.meaning u.drive).most c.args.cdb.now c.args.out.now (length b) q taken c.if-out-request.false c.if-into-request.false)
-    (phase_works g.D.Drive.does g.D.Drive.meaning g.met.D.Drive.formed g.met.D.Drive.agrees u.drive c.obey.new.self.drive c.args.out.now b c.obey.new.into (Ok c.obey.result) u.phase q.command room h c.obey.ensures.came)
-
-pub returns-clause-phase : goal.returns-clause-phase
-returns-clause-phase g c =
-    let u = c.args.self.now in
-    let most = (g.D.Drive.meaning u.drive).most in
-    let q = c.in_ok-request.request in
-    rw (with_both u.phase most c.args.cdb.now c.args.out.now (length c.args.into.now) q (sym c.receive.ensures ∙ c.in_ok-request.was) c.if-out-request.false c.if-into-request.false)
-    (c.obey.ensures.phase ∙ sym (calmed u.phase most c.args.out.now q.command))
-
-pub returns-clause-remembers : goal.returns-clause-remembers
-returns-clause-remembers g c h =
-    let u = c.args.self.now in
-    let b = c.args.into.now in
-    remembers_on g.D.Drive.does g.D.Drive.meaning g.met.D.Drive.formed g.met.D.Drive.agrees u.drive c.obey.new.self.drive c.args.out.now b c.obey.new.into (Ok c.obey.result)
-    (course u.phase (g.D.Drive.meaning u.drive).most c.args.cdb.now c.args.out.now (length b)) u.phase c.obey.new.self.phase (returns-clause-phase g c) (returns-clause-works g c h) h
+    let room = received_room c.args.cdb.now q (length out) (length b) taken c.if-out-request.false c.if-into-request.false in
+    let whole : Course = course_from g.D.Drive.meaning u c.args.cdb.now out (length b) in
+    let e = with_both u.phase s.most c.args.cdb.now out (length b) q taken c.if-out-request.false c.if-into-request.false in
+    let phase : w.phase ≡ phase_after whole u.phase = rw e (c.obey.ensures.phase ∙ sym (calmed u.phase s.most out q.command)) in
+    let works : Truthful g.D.Drive.meaning u → Works whole s b (g.D.Drive.meaning w.drive) c.obey.new.into r =
+    λ h. rw e (phase_works g.D.Drive.does g.D.Drive.meaning g.met.D.Drive.formed g.met.D.Drive.agrees u.drive w.drive out b c.obey.new.into r u.phase q.command room h c.obey.ensures.came) in
+    record {
+      came = rw e c.obey.ensures.came;
+      works = works;
+      remembers = λ h. remembers_on g.D.Drive.does g.D.Drive.meaning g.met.D.Drive.formed g.met.D.Drive.agrees u.drive w.drive out b c.obey.new.into r whole u.phase w.phase phase (works h) h;
+      phase = phase;
+    }
