@@ -1,27 +1,42 @@
--- Entering and giving up, by what is picked from the hand.
-use Rattle.std.proofs.Common.{◌≡◌, ℕ, ◌+◌, Bool, true, false, cond, eqb, List, [], ◌∷◌, Some, None, Option, Result, sym, refl, ap, subst, add-one, arith}
+-- Entering and giving up, by where the slip of the number stands.
+use Rattle.std.proofs.Common.{◌≡◌, ℕ, ◌+◌, true, false, List, get_or, Some, None, Ok, Err, Option, Result, sym, refl, ap, ◌∙◌, add-one}
+use Rattle.std.specs.List.{remove, position}
+use Rattle.std.specs.Result.{IsErrAnd}
+use Rattle.sense.specs.declared.refusal.Refusal.TheVariants.{SheetFull}
 use Rattle.slips.specs.declared.slips.Slip.{Slip}
 use Rattle.slips.specs.declared.slips.Line.{Line}
-use Rattle.slips.specs.Sheets.{Sheet, is_full, one_given_up}
+use Rattle.slips.specs.Slips.{line_of}
+use Rattle.slips.specs.Sheets.{Sheet, is_full, entered, one_given_up}
 use Rattle.hand.specs.declared.held.NotEntered.{NotEntered}
-use Rattle.hand.specs.Hands.{picked, without, is_held, EntersFound, Enters, GivesUpFound, GivesUp, all_given_up}
+use Rattle.hand.specs.declared.held.NotEntered.TheVariants.{NotInHand, Refused}
+use Rattle.hand.specs.Hands.{blank, has_number, picked, Enters, GivesUp, all_given_up}
+use Rattle.hand.proofs.Picks.{absent, found}
 
-pub enters_by : (n : ℕ) (ss : List Slip) (t : Sheet) (r : Result Line NotEntered) (ss' : List Slip) (t' : Sheet) (p : Option Slip) (full : Bool) → p ≡ picked n ss → is_full t ≡ full → EntersFound p full n ss t r ss' t' → Enters n ss t r ss' t'
-enters_by n ss t r ss' t' p full e f h =
-    subst (λ (q : Option Slip). EntersFound q (is_full t) n ss t r ss' t') e
-    (subst (λ (b : Bool). EntersFound p b n ss t r ss' t') (sym f) h)
+err_by : (r : Result Line NotEntered) (x : NotEntered) → IsErrAnd r (λ y. y ≡ x) → r ≡ Err x
+err_by (Ok l) x h = absurd h
+err_by (Err y) x h = ap Err h
 
-pub gives_up_by : (n : ℕ) (ss : List Slip) (t : Sheet) (r : Option Line) (ss' : List Slip) (t' : Sheet) (p : Option Slip) → p ≡ picked n ss → GivesUpFound p n ss t r ss' t' → GivesUp n ss t r ss' t'
-gives_up_by n ss t r ss' t' p e h = subst (λ (q : Option Slip). GivesUpFound q n ss t r ss' t') e h
+module _ (n : ℕ) (ss : List Slip) (t : Sheet) where
+  pub not_entered : (r : Result Line NotEntered) (x : NotEntered) → position (has_number n) ss ≡ None → x ≡ NotInHand → IsErrAnd r (λ y. y ≡ x) → Enters n ss t r ss t
+  not_entered r x e is h = rw (sym (absent n ss e).0) (record { answer = err_by r x h ∙ ap Err is; hand = refl; sheet = refl })
 
--- a slip that is held is picked, and none is where none is held
-pub none_held : (p : Option Slip) → is_held p ≡ false → None ≡ p
-none_held None h = refl
-none_held (Some s) h = let z : ◌≡◌ {A = ℕ} 0 1 = cc in absurd (omega arith)
+  pub none_given_up : (r : Option Line) → position (has_number n) ss ≡ None → r ≡ None → GivesUp n ss t r ss t
+  none_given_up r e a = rw (sym (absent n ss e).0) (record { answer = a; hand = refl; sheet = refl })
 
-pub held_is : (p : Option Slip) → is_held p ≡ true → (s : Slip) × (Some s ≡ p)
-held_is None h = let z : ◌≡◌ {A = ℕ} 0 1 = cc in absurd (omega arith)
-held_is (Some s) h = (s, refl)
+  pub stays_in_hand : (i : ℕ) → position (has_number n) ss ≡ Some i → is_full t ≡ true → Enters n ss t (Err (Refused SheetFull)) ss t
+  stays_in_hand i at full = rw full (rw (sym (found n ss i blank at).0) (record { answer = refl; hand = refl; sheet = refl }))
+
+  module _ (i : ℕ) (s : Slip) (l : Line) (ss' : List Slip) (t' : Sheet) (at : position (has_number n) ss ≡ Some i) (is : s ≡ get_or ss i s) (line : l ≡ line_of s) (rest : ss' ≡ remove ss i) where
+    picks : Some s ≡ picked n ss
+    picks = ap (λ (x : Slip). Some x) is ∙ (found n ss i s at).0
+
+    pub goes_to_sheet : is_full t ≡ false → t' ≡ entered (line_of s) t → Enters n ss t (Ok l) ss' t'
+    goes_to_sheet free e =
+        rw free (rw (sym picks) (record { answer = ap (λ (x : Line). Ok x) line; hand = rest ∙ sym (found n ss i s at).1; sheet = e }))
+
+    pub given_up_from_hand : t' ≡ one_given_up t → GivesUp n ss t (Some l) ss' t'
+    given_up_from_hand e =
+        rw (sym picks) (record { answer = ap (λ (x : Line). Some x) line; hand = rest ∙ sym (found n ss i s at).1; sheet = e })
 
 pub all_more : (n : ℕ) (t : Sheet) → all_given_up (n + 1) t ≡ all_given_up n (one_given_up t)
 unfolding all_given_up
@@ -30,13 +45,3 @@ all_more n t = ap (λ (k : ℕ). all_given_up k t) (add-one n)
 pub all_none : (t : Sheet) → all_given_up 0 t ≡ t
 unfolding all_given_up
 all_none t = refl
-
--- where no slip has the number, none goes
-pub unheld_stays : (n : ℕ) (ss : List Slip) → None ≡ picked n ss → without n ss ≡ ss
-unfolding picked without
-unheld_stays n [] h = refl
-unheld_stays n (s ∷ ss) h = by (eqb s.number n) h (λ e. unheld_stays n ss e)
-  where
-    by : (v : Bool) → None ≡ cond v (Some s) (picked n ss) → (None ≡ picked n ss → without n ss ≡ ss) → cond v ss (s ∷ without n ss) ≡ s ∷ ss
-    by true e rest = let z : ◌≡◌ {A = ℕ} 0 1 = cc in absurd (omega arith)
-    by false e rest = ap (λ (r : List Slip). s ∷ r) (rest e)

@@ -1,7 +1,8 @@
 -- Slips in hand: which is found by a number, and what entering it and giving it up leave.
-use Rattle.std.specs.Prelude.{◌≡◌, ℕ, zero, suc, ◌<◌, Bool, true, false, cond, List, [], ◌∷◌, length, Some, None, Ok, Err, vec_items, Option, Result, ◌==◌, ◌≢◌, slice_index_or}
+use Rattle.std.specs.Prelude.{◌≡◌, ℕ, zero, suc, Bool, true, false, List, ◌++◌, Some, None, Ok, Err, vec_items, Option, Result, ◌==◌}
+use Rattle.std.specs.List.{find, before_first, after_first}
 use Rattle.sense.specs.declared.case.Sense.TheVariants.{NoSense}
-use Rattle.slips.specs.declared.refusal.SheetRefusal.TheVariants.{SheetFull}
+use Rattle.sense.specs.declared.refusal.Refusal.TheVariants.{SheetFull}
 use Rattle.transfer.specs.declared.faults.Place.TheVariants.{Unit as UnitPlace}
 use Rattle.slips.specs.declared.slips.Slip.{Slip}
 use Rattle.slips.specs.declared.slips.Line.{Line}
@@ -16,29 +17,17 @@ slips_of h = vec_items h.slips
 
 -- what is read past the end of a list of slips
 abbrev pub blank : Slip
-blank = record { number = 0; code = 0; fault = record { sense = NoSense; block = None; place = UnitPlace } }
+blank = record { line = record { number = 0; code = 0; fault = record { sense = NoSense; block = None; place = UnitPlace } } }
 
-abbrev pub Absent : List Slip → ℕ → Type 0
-Absent ss n = (k : ℕ) → k < length ss → (slice_index_or ss k blank).number ≢ n
-
--- the first slip with the number stands at i
-pub record At (ss : List Slip) (n i : ℕ) : Type 0 where
-  pub inside : i < length ss
-  pub numbered : (slice_index_or ss i blank).number ≡ n
-  pub first : (k : ℕ) → k < i → (slice_index_or ss k blank).number ≢ n
+abbrev pub has_number : ℕ → Slip → Bool
+has_number n s = (line_of s).number == n
 
 -- the first slip of a number, and the others
-unfoldable pub picked : ℕ → List Slip → Option Slip
-picked n [] = None
-picked n (s ∷ ss) = cond (s.number == n) (Some s) (picked n ss)
+abbrev pub picked : ℕ → List Slip → Option Slip
+picked n ss = find (has_number n) ss
 
-unfoldable pub without : ℕ → List Slip → List Slip
-without n [] = []
-without n (s ∷ ss) = cond (s.number == n) ss (s ∷ without n ss)
-
-abbrev pub is_held : Option Slip → Bool
-is_held None = false
-is_held (Some s) = true
+abbrev pub without : ℕ → List Slip → List Slip
+without n ss = before_first (has_number n) ss ++ after_first (has_number n) ss
 
 -- What an entering gives, and the hand and the sheet after it.
 pub record Left {A : Type 0} (r a : A) (ss' ss : List Slip) (t' t : Sheet) : Type 0 where

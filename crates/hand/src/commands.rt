@@ -7,38 +7,31 @@ ghost use Rattle.hand.specs.Answers.{Answered, Untouched};
 use crate::held::Hand;
 use ata::Drive;
 use sense::Refusal;
-use slips::{Line, Reply, Unit};
+use slips::{Line, Unit};
 use std::alloc::AllocError;
-use transfer::Tally;
+use unit::Reply;
 
-/// What a command came to: as its reply says, with what its slip says.
-#[derive(Clone, Copy)]
-pub enum Answer {
-    Good(Tally),
-    Check(Line, Tally),
-    Refused(Refusal),
-}
-
-/// Carries out a command. Where there is no memory for a slip nothing is done.
+/// Carries out a command, and tells what its slip says. Where there is no memory for a slip nothing is done.
 pub fn command<D: Drive>(
     unit: &mut Unit<D>,
     hand: &mut Hand,
     cdb: &[u8],
     out: &[u8],
     into: &mut [u8],
-) -> Result<Answer, AllocError>
+) -> Result<Result<Reply<Line>, Refusal>, AllocError>
     ensures { MatchResult result
         (λ a. Answered D.Drive.does D.Drive.meaning unit.old (slips_of hand.old) cdb.now out.now into.old unit.new (slips_of hand.new) into.new a)
         (λ _. Untouched unit.old (slips_of hand.old) into.old unit.new (slips_of hand.new) into.new) }
 {
     hand.make_room()?;
+    // A method that maps the slip by a closure would leave the hand after it unproved.
     match unit.command(cdb, out, into) {
-        Err(refusal) => Ok(Answer::Refused(refusal)),
-        Ok(Reply::Good(tally)) => Ok(Answer::Good(tally)),
+        Err(refusal) => Ok(Err(refusal)),
+        Ok(Reply::Good(tally)) => Ok(Ok(Reply::Good(tally))),
         Ok(Reply::Check(slip, tally)) => {
             let line = slip.line();
             hand.take_in(slip);
-            Ok(Answer::Check(line, tally))
+            Ok(Ok(Reply::Check(line, tally)))
         }
     }
 }

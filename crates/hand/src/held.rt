@@ -1,11 +1,13 @@
 //! The hand itself: slips are found by their numbers.
 
-ghost use Rattle.std.specs.Prelude.{◌≡◌, ℕ, ◌+◌, ◌<◌, ◌≤◌, Bool, true, false, [], ◌∷◌, ◌++◌, length, vec_len, vec_capacity, MatchOption, OnOk, slice_index_or};
+ghost use Rattle.std.specs.Prelude.{◌≡◌, ◌<◌, ◌≤◌, [], ◌∷◌, ◌++◌, length, is_some, vec_len, vec_capacity, MatchOption, OnOk, slice_index_or};
+ghost use Rattle.std.specs.List.{position};
 ghost use Rattle.slips.specs.Slips.{line_of};
 ghost use Rattle.slips.specs.Sheets.{sheet_of};
-ghost use Rattle.hand.specs.Hands.{slips_of, blank, Absent, At, picked, without, is_held, Enters, GivesUp, all_given_up};
+ghost use Rattle.hand.specs.Hands.{slips_of, blank, has_number, picked, Enters, GivesUp, all_given_up};
 
-use slips::{Line, RunSheet, SheetRefusal, Slip};
+use sense::Refusal;
+use slips::{Line, RunSheet, Slip};
 use std::alloc::{AllocError, Global};
 
 /// The slips that were handed out and not yet entered or given up, in the order in which they came.
@@ -17,7 +19,7 @@ pub struct Hand {
 #[derive(Clone, Copy)]
 pub enum NotEntered {
     NotInHand,
-    Refused(SheetRefusal),
+    Refused(Refusal),
 }
 
 impl Hand {
@@ -40,10 +42,7 @@ impl Hand {
     pub fn line(&self, at: usize) -> Option<Line>
         ensures { MatchOption result (length (slips_of self.now) ≤ at) (λ x. (at < length (slips_of self.now)) × (x ≡ line_of (slice_index_or (slips_of self.now) at blank))) }
     {
-        if at >= self.slips.len() {
-            return None;
-        }
-        Some(self.slips[at].line())
+        self.slips.get(at).map(|slip| slip.line())
     }
 
     // Room for one slip more, so that a slip is never left without a place.
@@ -63,59 +62,31 @@ impl Hand {
 
     // The position of the first slip with the number.
     fn find(&self, number: u64) -> Option<usize>
-        ensures { MatchOption result (Absent (slips_of self.now) number) (λ at. At (slips_of self.now) number at) }
+        ensures { result ≡ position (has_number number) (slips_of self.now) }
     {
-        let slips = self.slips.as_slice();
-        let mut at = 0;
-        while at < slips.len() {
-            if slips[at].number() == number {
-                return Some(at);
-            }
-            at += 1;
-        }
-        None
+        self.slips.iter().position(|slip| slip.number() == number)
     }
 
     /// Whether a slip of that number is in hand.
     pub fn holds(&self, number: u64) -> bool
-        ensures { result ≡ is_held (picked number (slips_of self.now)) }
+        ensures { result ≡ is_some (picked number (slips_of self.now)) }
     {
-        match self.find(number) {
-            Some(_) => true,
-            None => false,
-        }
-    }
-
-    // The first slip of the number, out of the hand.
-    fn take_out(&mut self, number: u64) -> Option<Slip>
-        ensures value { result ≡ picked number (slips_of self.old) }
-        ensures rest { slips_of self.new ≡ without number (slips_of self.old) }
-    {
-        match self.find(number) {
-            Some(at) => Some(self.slips.remove(at)),
-            None => None,
-        }
+        self.find(number).is_some()
     }
 
     /// Enters the slip of that number on a sheet. Where the sheet is full the slip stays in hand.
     pub fn enter(&mut self, number: u64, sheet: &mut RunSheet<'_>) -> Result<Line, NotEntered>
         ensures { Enters number (slips_of self.old) (sheet_of sheet.old) result (slips_of self.new) (sheet_of sheet.new) }
     {
+        let at = self.find(number).ok_or(NotEntered::NotInHand)?;
         if sheet.is_full() {
-            return match self.holds(number) {
-                true => Err(NotEntered::Refused(SheetRefusal::SheetFull)),
-                false => Err(NotEntered::NotInHand),
-            };
+            return Err(NotEntered::Refused(Refusal::SheetFull));
         }
-        match self.take_out(number) {
-            None => Err(NotEntered::NotInHand),
-            Some(slip) => {
-                let line = slip.line();
-                match sheet.enter(slip) {
-                    Ok(()) => Ok(line),
-                    Err(_) => unreachable(),
-                }
-            }
+        let slip = self.slips.remove(at);
+        let line = slip.line();
+        match sheet.enter(slip) {
+            Ok(()) => Ok(line),
+            Err(_) => unreachable(),
         }
     }
 
@@ -123,14 +94,11 @@ impl Hand {
     pub fn give_up(&mut self, number: u64, sheet: &mut RunSheet<'_>) -> Option<Line>
         ensures { GivesUp number (slips_of self.old) (sheet_of sheet.old) result (slips_of self.new) (sheet_of sheet.new) }
     {
-        match self.take_out(number) {
-            None => None,
-            Some(slip) => {
-                let line = slip.line();
-                sheet.give_up(slip);
-                Some(line)
-            }
-        }
+        let at = self.find(number)?;
+        let slip = self.slips.remove(at);
+        let line = slip.line();
+        sheet.give_up(slip);
+        Some(line)
     }
 
     /// Gives up every slip in hand, each counted by a sheet, and ends the hand.

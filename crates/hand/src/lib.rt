@@ -5,5 +5,5 @@
 mod commands;
 mod held;
 
-pub use commands::{Answer, command};
+pub use commands::command;
 pub use held::{Hand, NotEntered};

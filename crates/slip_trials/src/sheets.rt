@@ -2,9 +2,11 @@
 
 use ata::Drive;
 use plain::PlainDisk;
-use slips::{HandedBack, Line, Reply, RunSheet, SheetRefusal, Slip, Unit};
+use sense::Refusal;
+use slips::{HandedBack, Line, RunSheet, Slip, Unit};
 use std::process::Abort;
 use std::test::Fail;
+use unit::Reply;
 
 /// How many slips were handed out, how many were entered, and whether each refusal was for a full sheet, with its own slip.
 #[derive(Clone, Copy, PartialEq, Eq, Debug)]
@@ -20,7 +22,7 @@ fn enter_or_give_up(slip: Slip, sheet: &mut RunSheet<'_>, filled: &mut Filled) {
     match sheet.enter(slip) {
         Ok(()) => filled.entered = filled.entered.saturating_add(1),
         Err(HandedBack { refusal, slip }) => {
-            let whole = refusal == SheetRefusal::SheetFull && slip.number() == number;
+            let whole = refusal == Refusal::SheetFull && slip.number() == number;
             filled.handed_back_whole = filled.handed_back_whole && whole;
             sheet.give_up(slip);
         }
@@ -38,8 +40,7 @@ fn fill<D: Drive>(unit: &mut Unit<D>, sheet: &mut RunSheet<'_>, commands: u64) -
         // No command has this code.
         match unit.command(&[0xFF], &[], &mut []) {
             Ok(Reply::Check(slip, _)) => enter_or_give_up(slip, sheet, &mut filled),
-            Ok(Reply::Good(_)) => {}
-            Err(_) => {}
+            Ok(Reply::Good(_)) | Err(_) => {}
         }
     }
     filled

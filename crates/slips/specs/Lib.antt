@@ -1,5 +1,3 @@
--- What the contracts of this crate cite: the number of the refusal, what a command comes to, slips, the run sheet.
-pub mod Refusals
-pub mod Commanded
+-- What the contracts of this crate cite: slips, the run sheet.
 pub mod Slips
 pub mod Sheets

@@ -1,7 +1,7 @@
 -- The run sheet, by what can be read of it.
 use Rattle.std.specs.Prelude.{ℕ, ◌+◌, min, Bool, List, [], ◌∷◌, ◌++◌, length, ◌==◌}
 use Rattle.bounded.specs.Entries.{entries, room}
-use Rattle.slips.specs.declared.refusal.SheetRefusal.TheVariants.{SheetFull}
+use Rattle.sense.specs.declared.refusal.Refusal.TheVariants.{SheetFull}
 use Rattle.slips.specs.declared.slips.Slip.{Slip}
 use Rattle.slips.specs.declared.slips.Line.{Line}
 use Rattle.slips.specs.declared.slips.HandedBack.{HandedBack}

@@ -3,13 +3,9 @@
 #![tactic(auto)]
 
 mod attached;
-mod refusal;
-mod replies;
 mod sheet;
 mod slips;
 
 pub use attached::Unit;
-pub use refusal::SheetRefusal;
-pub use replies::Reply;
 pub use sheet::RunSheet;
 pub use slips::{HandedBack, Line, Slip};

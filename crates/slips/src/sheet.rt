@@ -4,9 +4,9 @@ ghost use Rattle.std.specs.Prelude.{◌≡◌, ◌<◌, ◌≤◌, true, false, 
 ghost use Rattle.slips.specs.Slips.{line_of};
 ghost use Rattle.slips.specs.Sheets.{sheet_of, fresh, is_full, entered, one_given_up, Refused};
 
-use crate::refusal::SheetRefusal;
 use crate::slips::{HandedBack, Line, Slip};
 use bounded::Bounded;
+use sense::Refusal;
 
 /// As many lines as the slice lent to it has places, and the number of slips that were given up.
 #[derive(Drop)]
@@ -74,7 +74,7 @@ impl<'a> RunSheet<'a> {
                 Ok(())
             }
             Err(_) => Err(HandedBack {
-                refusal: SheetRefusal::SheetFull,
+                refusal: Refusal::SheetFull,
                 slip,
             }),
         }

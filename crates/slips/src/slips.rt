@@ -3,18 +3,10 @@
 ghost use Rattle.std.specs.Prelude.{◌≡◌};
 ghost use Rattle.slips.specs.Slips.{line_of};
 
-use crate::refusal::SheetRefusal;
-use sense::Sense;
+use sense::{Refusal, Sense};
 use transfer::{Fault, Place};
 
-/// What a failed command hands out: a running number, the CDB's code, and the fault. Only a unit makes one.
-pub struct Slip {
-    number: u64,
-    code: u8,
-    fault: Fault,
-}
-
-/// A slip as it is entered: its number, the CDB's code, and the fault with its sense, its block and its place.
+/// A slip as it is entered: its running number, the CDB's code, and the fault with its sense, its block and its place.
 #[derive(Clone, Copy)]
 pub struct Line {
     pub number: u64,
@@ -22,47 +14,47 @@ pub struct Line {
     pub fault: Fault,
 }
 
+/// What a failed command hands out, with the line that it is to be entered as. Only a unit makes one.
+pub struct Slip {
+    line: Line,
+}
+
 /// A slip that was refused, and why.
 pub struct HandedBack {
-    pub refusal: SheetRefusal,
+    pub refusal: Refusal,
     pub slip: Slip,
 }
 
 impl Slip {
     pub(crate) fn new(number: u64, code: u8, fault: Fault) -> Slip
-        ensures { result ≡ record { number = number; code = code; fault = fault } }
+        ensures { line_of result ≡ record { number = number; code = code; fault = fault } }
     {
         Slip {
-            number,
-            code,
-            fault,
+            line: Line {
+                number,
+                code,
+                fault,
+            },
         }
     }
 
     pub fn number(&self) -> u64
-        ensures { result ≡ self.now.number }
+        ensures { result ≡ (line_of self.now).number }
     {
-        self.number
+        self.line.number
     }
 
     /// What the slip says, as a line would repeat it. The slip is still to be entered or given up.
     pub fn line(&self) -> Line
         ensures { result ≡ line_of self.now }
     {
-        Line {
-            number: self.number,
-            code: self.code,
-            fault: self.fault,
-        }
+        let Slip { line } = self;
+        *line
     }
 
     // Only the run sheet spends a slip.
     pub(crate) fn spend(self) {
-        let Slip {
-            number: _,
-            code: _,
-            fault: _,
-        } = self;
+        let Slip { line: _ } = self;
     }
 }
 

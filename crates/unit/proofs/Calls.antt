@@ -1,7 +1,6 @@
 -- The course of a call, by what its request needs of the buffers.
-use Rattle.std.proofs.Common.{◌≡◌, ℕ, ◌<◌, ◌≤◌, Bool, true, false, cond, ltb, List, length, Ok, Err, Result, refl, ap, ◌∙◌, arith}
+use Rattle.std.proofs.Common.{◌≡◌, ℕ, ◌≤◌, Bool, true, false, cond, ltb, List, length, Ok, Err, Result, refl, ap, ◌∙◌, arith}
 use Rattle.std.proofs.lemmas.Bool.Decides.{nat_tests}
-use Rattle.sense.specs.declared.refusal.Refusal.TheVariants.{DataOutShort, DataInShort}
 use Rattle.sense.specs.declared.case.Sense.{Sense}
 use Rattle.cdb.specs.declared.command.Command.{Command}
 use Rattle.cdb.specs.declared.command.Command.TheVariants.{TestUnitReady, ReadCapacity, Read, Write}
@@ -10,31 +9,14 @@ use Rattle.cdb.specs.Requests.{received}
 use Rattle.unit.specs.declared.known.Facts.{Facts}
 use Rattle.unit.specs.declared.standing.Phase.{Phase}
 use Rattle.unit.specs.declared.standing.Phase.TheVariants.{Unfit, Attention, Ready}
-use Rattle.unit.specs.Courses.{Course, refused, course, taken_in, in_phase, course_of, past, phase_after, calm}
+use Rattle.unit.specs.Courses.{Course, course, taken_in, in_phase, course_of, past, phase_after, calm}
 
-module _ (f : Facts) (p : Phase) (most : ℕ) (cdb out : List ℕ) (room : ℕ) (q : Request) (taken : received cdb ≡ Ok q) where
-  abbrev by : Bool → Bool → Course
-  by a b = cond a (refused DataOutShort) (cond b (refused DataInShort) (in_phase f p most out q.command))
-
-  in_request : course f p most cdb out room ≡ by (ltb (length out) q.out) (ltb room q.into)
-  in_request = ap (taken_in f p most out room) taken
-
-  pub out_short : length out < q.out → course f p most cdb out room ≡ refused DataOutShort
-  out_short h =
-      let e : ltb (length out) q.out ≡ true = grind (arith, nat_tests) in
-      in_request ∙ ap (λ (v : Bool). by v (ltb room q.into)) e
-
-  pub in_short : q.out ≤ length out → room < q.into → course f p most cdb out room ≡ refused DataInShort
-  in_short h i =
-      let e : ltb (length out) q.out ≡ false = grind (arith, nat_tests) in
-      let e2 : ltb room q.into ≡ true = grind (arith, nat_tests) in
-      in_request ∙ ap (λ (v : Bool). by v (ltb room q.into)) e ∙ ap (λ (v : Bool). by false v) e2
-
-  pub with_both : q.out ≤ length out → q.into ≤ room → course f p most cdb out room ≡ in_phase f p most out q.command
+module _ (p : Phase) (most : ℕ) (cdb out : List ℕ) (room : ℕ) (q : Request) (taken : received cdb ≡ Ok q) where
+  pub with_both : q.out ≤ length out → q.into ≤ room → course p most cdb out room ≡ in_phase p most out q.command
   with_both h i =
       let e : ltb (length out) q.out ≡ false = grind (arith, nat_tests) in
       let e2 : ltb room q.into ≡ false = grind (arith, nat_tests) in
-      in_request ∙ ap (λ (v : Bool). by v (ltb room q.into)) e ∙ ap (λ (v : Bool). by false v) e2
+      ap (taken_in p most out room) taken ∙ rw e (rw e2 refl)
 
 -- past the buffers nothing is turned away by number, so an attention ends
 calm_either : (v : Bool) (k l : Course) (p : Phase) → phase_after k p ≡ calm p → phase_after l p ≡ calm p → phase_after (cond v k l) p ≡ calm p
@@ -47,8 +29,8 @@ calm_course f most out ReadCapacity p = refl
 calm_course f most out (Read fua x) p = calm_either (past f x) _ _ p refl refl
 calm_course f most out (Write fua x) p = calm_either (past f x) _ _ p refl refl
 
-pub calmed : (f : Facts) (p : Phase) (most : ℕ) (out : List ℕ) (c : Result Command Sense) → phase_after (in_phase f p most out c) p ≡ calm p
-calmed f Unfit most out c = refl
-calmed f Attention most out c = refl
-calmed f Ready most out (Err s) = refl
-calmed f Ready most out (Ok c) = calm_course f most out c Ready
+pub calmed : (p : Phase) (most : ℕ) (out : List ℕ) (c : Result Command Sense) → phase_after (in_phase p most out c) p ≡ calm p
+calmed Unfit most out c = refl
+calmed (Attention f) most out c = refl
+calmed (Ready f) most out (Err s) = refl
+calmed (Ready f) most out (Ok c) = calm_course f most out c (Ready f)

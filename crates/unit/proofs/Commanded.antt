@@ -11,6 +11,7 @@ use Rattle.cdb.specs.declared.command.Command.TheVariants.{TestUnitReady, ReadCa
 use Rattle.cdb.specs.declared.command.Extent.{Extent}
 use Rattle.ata.specs.Machine.{Step}
 use Rattle.sense.specs.declared.case.Sense.TheVariants.{PastEnd}
+use Rattle.transfer.specs.declared.faults.Fault.{Fault}
 use Rattle.transfer.specs.declared.faults.Place.TheVariants.{Cdb as CdbPlace}
 use Rattle.transfer.specs.Tasks.{width_of, piece}
 use Rattle.transfer.specs.Asks.{read_asks, write_asks}
@@ -30,17 +31,17 @@ in_range : (f : Facts) (x : Extent) → past f x ≡ false → InRange f x x.blo
 in_range f x h = record { first = grind (arith, nat_tests); last = grind (arith, nat_tests); is = refl }
 
 module _ {D : Type 0} (does : D → Exchange → D → Type 0) (meaning : D → State) (formed : (x : D) → Formed (meaning x)) (agrees : (x : D) (e : Exchange) (y : D) → does x e y → Agrees (meaning x) e (meaning y))
-    (f : Facts) (d e : D) (out b b' : List ℕ) (r : Result Reply Refusal) where
+    (d e : D) (out b b' : List ℕ) (r : Result (Reply Fault) Refusal) where
   abbrev Does : Course → Type 0
   Does k = Comes does k d b e b' r → Works k (meaning d) b (meaning e) b' r
 
   stays : (e ≡ d) → meaning e ≡ meaning d
   stays i = ap meaning i
 
-  course_works : (c : Command) → Room (Ok c) (length out) (length b) → Knows f (meaning d) → Does (course_of f (meaning d).most out c)
-  course_works TestUnitReady room knows h = idle_worked does meaning formed agrees f d e b h.0 h.1 h.2 b' r knows h.5 h.4 h.3
-  course_works ReadCapacity room knows h = stays h.0
-  course_works (Read fua x) room knows h = by (past f x) refl h
+  course_works : (f : Facts) (c : Command) → Room (Ok c) (length out) (length b) → Knows f (meaning d) → Does (course_of f (meaning d).most out c)
+  course_works f TestUnitReady room knows h = idle_worked does meaning formed agrees f d e b h.0 h.1 h.2 b' r knows h.5 h.4 h.3
+  course_works f ReadCapacity room knows h = stays h.0
+  course_works f (Read fua x) room knows h = by (past f x) refl h
     where
       ready : Course
       ready = asks (512 * x.count) (read_asks f.width fua (piece f.width (meaning d).most) x.block x.count) (read_work (meaning d).most fua x.block x.count)
@@ -48,7 +49,7 @@ module _ {D : Type 0} (does : D → Exchange → D → Type 0) (meaning : D → 
       by : (v : Bool) → past f x ≡ v → Does (cond v (stopped CdbPlace PastEnd) ready)
       by true p h = stays h.0
       by false p h = read_worked does meaning formed agrees f d e b h.0 h.1 h.2 b' r knows h.5 fua x x.block (in_range f x p) room h.4 h.3
-  course_works (Write fua x) room knows h = by (past f x) refl h
+  course_works f (Write fua x) room knows h = by (past f x) refl h
     where
       ready : Course
       ready =
@@ -59,15 +60,15 @@ module _ {D : Type 0} (does : D → Exchange → D → Type 0) (meaning : D → 
       by true p h = stays h.0
       by false p h = write_worked does meaning formed agrees f d e b h.0 h.1 h.2 b' r knows h.5 fua x x.block out (in_range f x p) room h.4 h.3
 
-  pub phase_works : (p : Phase) (c : Result Command Sense) → Room c (length out) (length b) → Remembers p f (meaning d) → Does (in_phase f p (meaning d).most out c)
+  pub phase_works : (p : Phase) (c : Result Command Sense) → Room c (length out) (length b) → Remembers p (meaning d) → Does (in_phase p (meaning d).most out c)
   phase_works Unfit c room knows h = stays h.0
-  phase_works Attention c room knows h = stays h.0
-  phase_works Ready (Err s) room knows h = stays h.0
-  phase_works Ready (Ok c) room knows h = course_works c room knows h
+  phase_works (Attention f) c room knows h = stays h.0
+  phase_works (Ready f) (Err s) room knows h = stays h.0
+  phase_works (Ready f) (Ok c) room knows h = course_works f c room knows h
 
   -- what is remembered stays true
-  knows_on : Knows f (meaning d) → (meaning e).words ≡ (meaning d).words → Knows f (meaning e)
-  knows_on k w =
+  knows_on : (f : Facts) → Knows f (meaning d) → (meaning e).words ≡ (meaning d).words → Knows f (meaning e)
+  knows_on f k w =
       record {
         blocks = k.blocks ∙ sym (formed d).blocks_true ∙ ap blocks_of (sym w) ∙ (formed e).blocks_true;
         width = k.width ∙ ap (λ (z : List ℕ). width_of (wide z)) (sym w);
@@ -89,24 +90,23 @@ module _ {D : Type 0} (does : D → Exchange → D → Type 0) (meaning : D → 
       by true l = ap (λ (z : State). z.words) (h.0 l).stepped.state
       by false l = ap (λ (z : State). z.words) (h.1 l).state ∙ dark_words w.steps (meaning d)
 
-  remembers_words : (p : Phase) → (meaning e).words ≡ (meaning d).words → Remembers p f (meaning d) → Remembers p f (meaning e)
+  remembers_words : (p : Phase) → (meaning e).words ≡ (meaning d).words → Remembers p (meaning d) → Remembers p (meaning e)
   remembers_words Unfit w k = tt
-  remembers_words Attention w k = knows_on k w
-  remembers_words Ready w k = knows_on k w
+  remembers_words (Attention f) w k = knows_on f k w
+  remembers_words (Ready f) w k = knows_on f k w
 
-  remembers_calm : (p : Phase) (s : State) → Remembers p f s → Remembers (calm p) f s
+  remembers_calm : (p : Phase) (s : State) → Remembers p s → Remembers (calm p) s
   remembers_calm Unfit s k = k
-  remembers_calm Attention s k = k
-  remembers_calm Ready s k = k
+  remembers_calm (Attention f) s k = k
+  remembers_calm (Ready f) s k = k
 
-  remembers_after : (k : Course) (p : Phase) (s : State) → Remembers p f s → Remembers (phase_after k p) f s
+  remembers_after : (k : Course) (p : Phase) (s : State) → Remembers p s → Remembers (phase_after k p) s
   remembers_after (refused n) p s h = h
   remembers_after (stopped at x) p s h = remembers_calm p s h
   remembers_after (answers xs) p s h = remembers_calm p s h
   remembers_after (asks n ks w) p s h = remembers_calm p s h
 
-  pub remembers_on : (k : Course) (p p' : Phase) (f' : Facts) → p' ≡ phase_after k p → f' ≡ f → Works k (meaning d) b (meaning e) b' r → Remembers p f (meaning d) → Remembers p' f' (meaning e)
-  remembers_on k p p' f' i j w h =
-      subst (λ (z : Facts). Remembers p' z (meaning e)) (sym j)
-      (subst (λ (z : Phase). Remembers z f (meaning e)) (sym i)
-      (remembers_after k p (meaning e) (remembers_words p (words_kept k w) h)))
+  pub remembers_on : (k : Course) (p p' : Phase) → p' ≡ phase_after k p → Works k (meaning d) b (meaning e) b' r → Remembers p (meaning d) → Remembers p' (meaning e)
+  remembers_on k p p' i w h =
+      subst (λ (z : Phase). Remembers z (meaning e)) (sym i)
+      (remembers_after k p (meaning e) (remembers_words p (words_kept k w) h))

@@ -11,7 +11,6 @@ use Rattle.ata.specs.Commands.{State, Formed, Gave, fetches_words, gives, no_ans
 use Rattle.ata.specs.Exchange.{Exchange, exchange, Agrees}
 use Rattle.transfer.specs.Tasks.{width_of, task}
 use Rattle.transfer.specs.Talk.{judged}
-use Rattle.unit.specs.declared.known.Facts.{Facts}
 use Rattle.unit.specs.declared.standing.Phase.{Phase}
 use Rattle.unit.specs.declared.standing.Phase.TheVariants.{Unfit, Attention, Ready}
 use Rattle.unit.specs.Attached.{fit_by, Begins, Identified, Remembers}
@@ -73,16 +72,16 @@ module _ (s t : State) (words : List ℕ) (answer : Answer) (formed : Formed s) 
       by false f = not_fit (fit_by (judged answer) words) fit (ap (λ (g : Gave). fit_by (judged g.answer) words) f)
 
 pub identified_knows : {D : Type 0} (does : D → Exchange → D → Type 0) (meaning : D → State) (formed : (x : D) → Formed (meaning x)) (agrees : (x : D) (e : Exchange) (y : D) → does x e y → Agrees (meaning x) e (meaning y))
-    (d e : D) (p : Phase) (f : Facts) → Identified does d e p f → Remembers p f (meaning e)
-identified_knows does meaning formed agrees d e p f h = by p h.begins
+    (d e : D) (p : Phase) → Identified does d e p → Remembers p (meaning e)
+identified_knows does meaning formed agrees d e p h = by p h.begins
   where
     a : Agrees (meaning d) (exchange (task IdentifyDevice 0 0) (fetches_words blank) h.words h.answer) (meaning e)
     a = agrees d (exchange (task IdentifyDevice 0 0) (fetches_words blank) h.words h.answer) e h.sent
 
-    by : (p : Phase) → Begins (judged h.answer) h.words p f → Remembers p f (meaning e)
+    by : (p : Phase) → Begins (judged h.answer) h.words p → Remembers p (meaning e)
     by Unfit b = tt
-    by Ready b = absurd b
-    by Attention b =
+    by (Ready f) b = absurd b
+    by (Attention f) b =
         let t = told_true (meaning d) (meaning e) h.words h.answer (formed d) b.0 a.0 a.1 in
         let on = (meaning d).machine.store.caching in
         let ws = (meaning d).words in

@@ -13,6 +13,7 @@ use Rattle.ata.proofs.Shown.{looks_reads, looks_writes, looks_join, never_cut}
 use Rattle.sense.specs.declared.refusal.Refusal.{Refusal}
 use Rattle.sense.specs.declared.case.Sense.TheVariants.{NoAnswer}
 use Rattle.transfer.specs.declared.counts.Tally.{Tally}
+use Rattle.transfer.specs.declared.faults.Fault.{Fault}
 use Rattle.transfer.specs.declared.tasks.Width.{Width}
 use Rattle.transfer.specs.declared.writing.Force.{Force}
 use Rattle.transfer.specs.Talk.{Verdict, failed, judged, Ask, part, made, laid, counted, Held, none_yet}
@@ -97,7 +98,7 @@ module _ {D : Type 0} (does : D → Exchange → D → Type 0) (meaning : D → 
       ap (λ (z : Verdict). record { bytes = 0 + k.gains z; commands = 0 + 1 }) j ∙ ap (λ (z : ℕ). record { bytes = 0 + z; commands = 0 + 1 }) none in
       (ap meaning (sym w.0) ∙ ap (λ (z : Gave). z.state) g, w.1 ∙ lies, w.2 ∙ counts, w.3)
 
-  pub dark_by : (ks : List Ask) (w : Work) (d e : D) (n : ℕ) (b end : List ℕ) (q : Tally) (v : Verdict) (b' : List ℕ) (r : Result Reply Refusal) → Starts ks w.steps → (meaning d).machine.lit ≡ false →
+  pub dark_by : (ks : List Ask) (w : Work) (d e : D) (n : ℕ) (b end : List ℕ) (q : Tally) (v : Verdict) (b' : List ℕ) (r : Result (Reply Fault) Refusal) → Starts ks w.steps → (meaning d).machine.lit ≡ false →
       Held does ks d (take n b) none_yet e end q v → b' ≡ end ++ drop n b → r ≡ Ok (replied v q) → Dark w (meaning d) b (meaning e) b' r
   dark_by ks w d e n b end q v b' r starts dark held is_b is-r =
       let f = by ks w.steps starts held in

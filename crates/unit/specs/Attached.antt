@@ -18,17 +18,17 @@ fit_by (Ok u) ws = is_fit ws
 fit_by (Err f) ws = false
 
 -- A fit unit begins with an attention, and remembers what the words say.
-abbrev pub Begins : Verdict → List ℕ → Phase → Facts → Type 0
-Begins v ws Unfit f = fit_by v ws ≡ false
-Begins v ws Attention f = (fit_by v ws ≡ true) × KnownFrom ws f
-Begins v ws Ready f = ⊥
+abbrev pub Begins : Verdict → List ℕ → Phase → Type 0
+Begins v ws Unfit = fit_by v ws ≡ false
+Begins v ws (Attention f) = (fit_by v ws ≡ true) × KnownFrom ws f
+Begins v ws (Ready f) = ⊥
 
 -- IDENTIFY DEVICE was sent, and nothing else.
-pub record Identified {D : Type 0} (does : D → Exchange → D → Type 0) (d e : D) (p : Phase) (f : Facts) : Type 0 where
+pub record Identified {D : Type 0} (does : D → Exchange → D → Type 0) (d e : D) (p : Phase) : Type 0 where
   pub answer : Answer
   pub words : List ℕ
   pub sent : does d (exchange (task IdentifyDevice 0 0) (fetches_words (replicate 256 0)) words answer) e
-  pub begins : Begins (judged answer) words p f
+  pub begins : Begins (judged answer) words p
 
 -- What is remembered is true of the drive.
 pub record Knows (f : Facts) (s : State) : Type 0 where
@@ -36,7 +36,7 @@ pub record Knows (f : Facts) (s : State) : Type 0 where
   pub width : f.width ≡ width_of (wide s.words)
   pub through : f.through ≡ through s.words
 
-abbrev pub Remembers : Phase → Facts → State → Type 0
-Remembers Unfit f s = Unit {0}
-Remembers Attention f s = Knows f s
-Remembers Ready f s = Knows f s
+abbrev pub Remembers : Phase → State → Type 0
+Remembers Unfit s = Unit {0}
+Remembers (Attention f) s = Knows f s
+Remembers (Ready f) s = Knows f s

@@ -12,6 +12,7 @@ use Rattle.cdb.specs.declared.command.Command.TheVariants.{TestUnitReady, ReadCa
 use Rattle.cdb.specs.declared.command.Extent.{Extent}
 use Rattle.cdb.specs.declared.request.Request.{Request}
 use Rattle.cdb.specs.Requests.{received}
+use Rattle.transfer.specs.declared.faults.Fault.{Fault}
 use Rattle.transfer.specs.declared.faults.Place.{Place}
 use Rattle.transfer.specs.declared.faults.Place.TheVariants.{Unit as UnitPlace, Cdb as CdbPlace}
 use Rattle.transfer.specs.declared.counts.Tally.{Tally}
@@ -61,31 +62,31 @@ course_of f most out (Write fua x) =
     (asks 0 (write_asks f.width (force_by fua f.through) (piece f.width most) x.block (take (512 * x.count) out))
     (write_work most (force_by fua f.through) x.block (blocks x.count (take (512 * x.count) out))))
 
-abbrev pub in_phase : Facts → Phase → ℕ → List ℕ → Result Command Sense → Course
-in_phase f Unfit most out c = stopped UnitPlace DeviceFault
-in_phase f Attention most out c = stopped UnitPlace AttentionSense
-in_phase f Ready most out (Err s) = stopped CdbPlace s
-in_phase f Ready most out (Ok c) = course_of f most out c
+abbrev pub in_phase : Phase → ℕ → List ℕ → Result Command Sense → Course
+in_phase Unfit most out c = stopped UnitPlace DeviceFault
+in_phase (Attention f) most out c = stopped UnitPlace AttentionSense
+in_phase (Ready f) most out (Err s) = stopped CdbPlace s
+in_phase (Ready f) most out (Ok c) = course_of f most out c
 
 -- the buffers are judged by what the command needs, before anything else of it
-abbrev pub with_room : Facts → Phase → ℕ → List ℕ → ℕ → Request → Course
-with_room f p most out room q =
+abbrev pub with_room : Phase → ℕ → List ℕ → ℕ → Request → Course
+with_room p most out room q =
     cond (nat_lt (length out) q.out) (refused DataOutShort)
-    (cond (nat_lt room q.into) (refused DataInShort) (in_phase f p most out q.command))
+    (cond (nat_lt room q.into) (refused DataInShort) (in_phase p most out q.command))
 
-abbrev pub taken_in : Facts → Phase → ℕ → List ℕ → ℕ → Result Request Refusal → Course
-taken_in f p most out room (Err n) = refused n
-taken_in f p most out room (Ok q) = with_room f p most out room q
+abbrev pub taken_in : Phase → ℕ → List ℕ → ℕ → Result Request Refusal → Course
+taken_in p most out room (Err n) = refused n
+taken_in p most out room (Ok q) = with_room p most out room q
 
 -- the course of a CDB with its data-out and as much room in data-in
-abbrev pub course : Facts → Phase → ℕ → List ℕ → List ℕ → ℕ → Course
-course f p most cdb out room = taken_in f p most out room (received cdb)
+abbrev pub course : Phase → ℕ → List ℕ → List ℕ → ℕ → Course
+course p most cdb out room = taken_in p most out room (received cdb)
 
--- An attention ends with the command that is told of it; what is turned away by number is not.
+-- An attention ends with the command that is told of it, but not with one that is turned away by number. The facts stay.
 abbrev pub calm : Phase → Phase
 calm Unfit = Unfit
-calm Attention = Ready
-calm Ready = Ready
+calm (Attention f) = Ready f
+calm (Ready f) = Ready f
 
 abbrev pub phase_after : Course → Phase → Phase
 phase_after (refused n) p = p
@@ -94,7 +95,7 @@ phase_after (answers xs) p = calm p
 phase_after (asks n ks w) p = calm p
 
 -- What the drive, data-in and the reply are after a command that took the course.
-abbrev pub Comes : {D : Type 0} → (D → Exchange → D → Type 0) → Course → D → List ℕ → D → List ℕ → Result Reply Refusal → Type 0
+abbrev pub Comes : {D : Type 0} → (D → Exchange → D → Type 0) → Course → D → List ℕ → D → List ℕ → Result (Reply Fault) Refusal → Type 0
 Comes does (refused n) d b e b' r = (e ≡ d) × (b' ≡ b) × (r ≡ Err n)
 Comes does (stopped at s) d b e b' r = (e ≡ d) × (b' ≡ b) × (r ≡ Ok (stopped_at at s))
 Comes does (answers xs) d b e b' r = (e ≡ d) × (b' ≡ over xs b) × (r ≡ Ok (Good (record { bytes = length xs; commands = 0 })))

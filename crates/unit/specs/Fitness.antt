@@ -1,18 +1,9 @@
 -- The words by which a drive is fit for a unit, and what the unit remembers of them.
-use Rattle.std.specs.Prelude.{◌≡◌, ℕ, ◌+◌, ◌*◌, ◌^◌, ◌<◌, ◌≤◌, Bool, true, cond, not, ◌&&◌, ◌⊎◌, List, ◌==◌, bit_and, nat_lt}
-use Rattle.ata.specs.Words.{word, claims, wide, through, blocks_of}
+use Rattle.std.specs.Prelude.{◌≡◌, ℕ, ◌+◌, ◌^◌, ◌<◌, ◌≤◌, Bool, true, cond, not, ◌&&◌, ◌⊎◌, List, nat_lt}
+use Rattle.ata.specs.Words.{claims, wide, through, blocks_of}
 use Rattle.cdb.specs.declared.command.Extent.{Extent}
 use Rattle.transfer.specs.Tasks.{width_of}
 use Rattle.unit.specs.declared.known.Facts.{Facts}
-
-abbrev pub bit : ℕ → ℕ → Bool
-bit w mask = not (bit_and w mask == 0)
-
-abbrev pub count_by : Bool → List ℕ → ℕ
-count_by w ws =
-    cond w
-    (word ws 100 + 65536 * word ws 101 + 4294967296 * word ws 102 + 281474976710656 * word ws 103)
-    (word ws 60 + 65536 * word ws 61)
 
 -- the largest number of blocks that the addresses reach
 abbrev pub reach : Bool → ℕ

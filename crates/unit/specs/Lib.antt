@@ -4,3 +4,4 @@ pub mod Capacity
 pub mod Courses
 pub mod Works
 pub mod Attached
+pub mod Commanded

@@ -5,6 +5,7 @@ use Rattle.ata.specs.Commands.{State, over, ordered}
 use Rattle.sense.specs.declared.case.Sense.TheVariants.{NoAnswer}
 use Rattle.sense.specs.declared.refusal.Refusal.{Refusal}
 use Rattle.transfer.specs.declared.counts.Tally.{Tally}
+use Rattle.transfer.specs.declared.faults.Fault.{Fault}
 use Rattle.transfer.specs.Talk.{Verdict, failed, none_yet}
 use Rattle.transfer.specs.Steps.{Work, Stepped, told_by}
 use Rattle.unit.specs.declared.replies.Reply.{Reply}
@@ -23,7 +24,7 @@ pub record Shown (l : Look) (s : State) (room : List ℕ) (t : State) (end : Lis
   pub left : t.machine.left ≡ None
 
 -- A drive with power goes through the steps of the work; the first n bytes of data-in take part.
-pub record Lit (w : Work) (n : ℕ) (s : State) (b : List ℕ) (t : State) (b' : List ℕ) (r : Result Reply Refusal) : Type 0 where
+pub record Lit (w : Work) (n : ℕ) (s : State) (b : List ℕ) (t : State) (b' : List ℕ) (r : Result (Reply Fault) Refusal) : Type 0 where
   pub tally : Tally
   pub verdict : Verdict
   pub end : List ℕ
@@ -37,16 +38,16 @@ abbrev pub dark_state : List Step → State → State
 dark_state [] s = s
 dark_state (x ∷ xs) s = ordered s
 
-abbrev pub dark_reply : List Step → Reply
+abbrev pub dark_reply : List Step → Reply Fault
 dark_reply [] = Good none_yet
 dark_reply (x ∷ xs) = replied (failed NoAnswer None) (record { bytes = 0; commands = 1 })
 
-pub record Dark (w : Work) (s : State) (b : List ℕ) (t : State) (b' : List ℕ) (r : Result Reply Refusal) : Type 0 where
+pub record Dark (w : Work) (s : State) (b : List ℕ) (t : State) (b' : List ℕ) (r : Result (Reply Fault) Refusal) : Type 0 where
   pub state : t ≡ dark_state w.steps s
   pub data_in : b' ≡ b
   pub reply : r ≡ Ok (dark_reply w.steps)
 
-abbrev pub Works : Course → State → List ℕ → State → List ℕ → Result Reply Refusal → Type 0
+abbrev pub Works : Course → State → List ℕ → State → List ℕ → Result (Reply Fault) Refusal → Type 0
 Works (refused n) s b t b' r = t ≡ s
 Works (stopped at x) s b t b' r = t ≡ s
 Works (answers xs) s b t b' r = t ≡ s

@@ -3,48 +3,33 @@
 ghost use Rattle.std.specs.Prelude.{◌≡◌};
 ghost use Rattle.unit.specs.Attached.{Identified, Remembers};
 
-use crate::known::Facts;
+use crate::execute::plain_task;
 use crate::standing::Phase;
-use ata::{AtaCommand, Drive, Feature, TaskFile};
+use ata::{AtaCommand, Drive};
 
 /// A unit over a drive, which it holds until it is detached.
 pub struct Unit<D> {
     pub(crate) drive: D,
-    pub(crate) facts: Facts,
     pub(crate) phase: Phase,
 }
 
 impl<D: Drive> Unit<D> {
     /// Takes a drive, and asks it what it is. A new unit has an attention to report.
     pub fn attach(mut drive: D) -> Unit<D>
-        ensures sent { Identified D.Drive.does drive result.drive result.phase result.facts }
-        ensures remembers { Remembers result.phase result.facts (D.Drive.meaning result.drive) }
+        ensures sent { Identified D.Drive.does drive result.drive result.phase }
+        ensures remembers { Remembers result.phase (D.Drive.meaning result.drive) }
     {
         let mut words = [0u16; 256];
-        let task = TaskFile {
-            command: AtaCommand::IdentifyDevice,
-            feature: Feature::Absent,
-            count: 0,
-            block: 0,
-        };
-        let answer = drive.words_in(task, &mut words);
-        let (phase, facts) = Phase::first(answer, &words);
-        Unit {
-            drive,
-            facts,
-            phase,
-        }
+        let answer = drive.words_in(plain_task(AtaCommand::IdentifyDevice), &mut words);
+        let phase = Phase::first(answer, &words);
+        Unit { drive, phase }
     }
 
     /// Gives the drive back, and ends the unit.
     pub fn detach(self) -> D
         ensures { result ≡ self.drive }
     {
-        let Unit {
-            drive,
-            facts: _,
-            phase: _,
-        } = self;
+        let Unit { drive, phase: _ } = self;
         drive
     }
 }

@@ -9,7 +9,7 @@ use crate::known::Facts;
 pub(crate) fn capacity_data(facts: &Facts) -> [u8; 8]
     ensures { result ≡ capacity_data facts.now.blocks }
 {
-    let last = facts.blocks.saturating_sub(1).min(0xFFFF_FFFF) as u32;
+    let last = u32::try_from(facts.blocks.saturating_sub(1)).unwrap_or(u32::MAX);
     let [a, b, c, d] = last.to_be_bytes();
     let [e, f, g, h] = 512u32.to_be_bytes();
     [a, b, c, d, e, f, g, h]

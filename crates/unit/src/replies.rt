@@ -6,16 +6,16 @@ ghost use Rattle.unit.specs.Replies.{replied, stopped_at};
 use sense::Sense;
 use transfer::{Fault, Place, Tally};
 
-/// GOOD, or CHECK CONDITION with its fault; either with the bytes put into data-in and the ATA commands sent.
+/// GOOD, or CHECK CONDITION with what tells of its fault; either with the bytes put into data-in and the ATA commands sent.
 #[derive(Clone, Copy)]
-pub enum Reply {
+pub enum Reply<F> {
     Good(Tally),
-    Check(Fault, Tally),
+    Check(F, Tally),
 }
 
-impl Reply {
+impl Reply<Fault> {
     /// The reply to a command that the drive was asked for.
-    pub(crate) fn from_drive(tally: Tally, verdict: Result<(), Fault>) -> Reply
+    pub(crate) fn from_drive(tally: Tally, verdict: Result<(), Fault>) -> Reply<Fault>
         ensures { result ≡ replied verdict tally }
     {
         match verdict {
@@ -25,7 +25,7 @@ impl Reply {
     }
 
     /// The reply to a command that was stopped before the drive was asked for anything.
-    pub(crate) fn stopped(place: Place, sense: Sense) -> Reply
+    pub(crate) fn stopped(place: Place, sense: Sense) -> Reply<Fault>
         ensures { result ≡ stopped_at place sense }
     {
         let fault = Fault {

@@ -1,7 +1,7 @@
 //! The state of a unit, and the words by which a drive is fit for one.
 
-ghost use Rattle.std.specs.Prelude.{◌≡◌, ℕ, ◌+◌, ◌^◌, ◌<◌, ◌≤◌, true, false, length, MatchOption};
-ghost use Rattle.ata.specs.Words.{wide, through, blocks_of};
+ghost use Rattle.std.specs.Prelude.{◌≡◌, ◌+◌, ◌^◌, ◌<◌, ◌≤◌, true, false, MatchOption};
+ghost use Rattle.ata.specs.Words.{claims, wide, through, blocks_of};
 ghost use Rattle.unit.specs.Fitness.{is_fit, KnownFrom, Past, InRange};
 ghost use Rattle.transfer.specs.Talk.{judged};
 ghost use Rattle.unit.specs.Attached.{Begins};
@@ -11,80 +11,68 @@ use ata::Answer;
 use cdb::Extent;
 use transfer::{Lba, Width, judge};
 
-/// Unfit for good; an attention to be reported first; or ready.
+/// Unfit for good; an attention to be reported first; or ready. Of a drive that is fit there are facts to remember.
 #[derive(Clone, Copy)]
 pub enum Phase {
     Unfit,
-    Attention,
-    Ready,
-}
-
-// What is remembered of a drive that is not fit.
-fn nothing_known() -> Facts
-    ensures { result.blocks ≡ 0 }
-{
-    Facts {
-        blocks: 0,
-        width: Width::Bits28,
-        through: false,
-    }
+    Attention(Facts),
+    Ready(Facts),
 }
 
 impl Phase {
     /// How a unit begins, by the answer to IDENTIFY DEVICE and its words.
-    pub(crate) fn first(answer: Answer, words: &[u16]) -> (Phase, Facts)
-        requires { length words.now ≡ 256 }
-        ensures { Begins (judged answer) words.now result.0 result.1 }
+    pub(crate) fn first(answer: Answer, words: &[u16; 256]) -> Phase
+        ensures { Begins (judged answer) words.now result }
     {
         match judge(answer) {
-            Err(_) => (Phase::Unfit, nothing_known()),
+            Err(_) => Phase::Unfit,
             Ok(()) => match Facts::from_words(words) {
-                None => (Phase::Unfit, nothing_known()),
-                Some(facts) => (Phase::Attention, facts),
+                None => Phase::Unfit,
+                Some(facts) => Phase::Attention(facts),
             },
         }
     }
 }
 
-fn bit(word: u16, mask: u16) -> bool
-    ensures { result ≡ Rattle.unit.specs.Fitness.bit word mask }
+// Whether a word has the bit of that value.
+fn claims(words: &[u16; 256], at: usize, bit: u16) -> bool
+    requires { at < 256 }
+    ensures { result ≡ claims words.now at bit }
 {
-    word & mask != 0
+    words[at] & bit != 0
 }
 
-fn block_count(words: &[u16], wide: bool) -> u64
-    requires { length words.now ≡ 256 }
-    ensures { result ≡ Rattle.unit.specs.Fitness.count_by wide words.now }
+fn block_count(words: &[u16; 256]) -> u64
+    ensures { result ≡ blocks_of words.now }
 {
-    if wide {
-        words[100] as u64
-            + 65536 * words[101] as u64
-            + 4294967296 * words[102] as u64
-            + 281474976710656 * words[103] as u64
+    if claims(words, 83, 1 << 10) {
+        u64::from(words[100])
+            + 65536 * u64::from(words[101])
+            + 4294967296 * u64::from(words[102])
+            + 281474976710656 * u64::from(words[103])
     } else {
-        words[60] as u64 + 65536 * words[61] as u64
+        u64::from(words[60]) + 65536 * u64::from(words[61])
     }
 }
 
 impl Facts {
     /// What the words say, where they say that the drive is fit.
-    pub(crate) fn from_words(words: &[u16]) -> Option<Facts>
-        requires { length words.now ≡ 256 }
+    pub(crate) fn from_words(words: &[u16; 256]) -> Option<Facts>
         ensures { MatchOption result (is_fit words.now ≡ false) (λ f. KnownFrom words.now f) }
     {
-        let wide = bit(words[83], 1 << 10);
-        let blocks = block_count(words, wide);
-        let most = if wide { (1 << 48) - 1 } else { (1 << 28) - 1 };
-        let ata_device = !bit(words[0], 1 << 15);
-        let words_valid = bit(words[83], 1 << 14) && !bit(words[83], 1 << 15);
-        if !ata_device || !words_valid || blocks == 0 || blocks > most {
+        let wide = claims(words, 83, 1 << 10);
+        let blocks = block_count(words);
+        let reach = if wide { 1 << 48 } else { 1 << 28 };
+        let ata_device = !claims(words, 0, 1 << 15);
+        let words_valid = claims(words, 83, 1 << 14) && !claims(words, 83, 1 << 15);
+        if !ata_device || !words_valid || blocks == 0 || blocks >= reach {
             return None;
         }
         let width = if wide { Width::Bits48 } else { Width::Bits28 };
         Some(Facts {
             blocks,
             width,
-            through: bit(words[84], 1 << 6),
+            through: claims(words, 84, 1 << 6),
         })
     }
 
@@ -93,7 +81,7 @@ impl Facts {
         ensures { MatchOption result (Past self.now extent) (λ a. InRange self.now extent a.value) }
     {
         let blocks = self.blocks;
-        if extent.block >= blocks || extent.count as u64 > blocks - extent.block {
+        if extent.block >= blocks || u64::from(extent.count) > blocks - extent.block {
             return None;
         }
         Lba::new(extent.block)

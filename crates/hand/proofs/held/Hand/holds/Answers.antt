@@ -1,10 +1,7 @@
-use Rattle.std.proofs.Common.{vec_items, sym, ap}
-use Rattle.hand.specs.Hands.{is_held}
-use Rattle.hand.proofs.Picks.{absent_unpicked, found_picked}
+use Rattle.std.proofs.Common.{is_some, Option, ℕ, ap, ◌∙◌}
+use Rattle.hand.specs.Hands.{slips_of}
+use Rattle.hand.proofs.Picks.{held}
 use Rattle.hand.proofs.held.Hand.holds.Goals as goal
 
-pub returns-in-Some : goal.returns-in-Some
-returns-in-Some c = ap is_held (sym (found_picked (vec_items c.args.self.now.slips) c.args.number _ c.in-Some.ensures).0)
-
-pub returns-in-None : goal.returns-in-None
-returns-in-None c = ap is_held (sym (absent_unpicked (vec_items c.args.self.now.slips) c.args.number c.in-None.ensures).0)
+pub returns : goal.returns
+returns c = c.is_some.ensures ∙ ap (λ (p : Option ℕ). is_some p) c.find.ensures ∙ held c.args.number (slips_of c.args.self.now)

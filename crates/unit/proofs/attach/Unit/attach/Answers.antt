@@ -5,9 +5,9 @@ use Rattle.unit.proofs.attach.Unit.attach.Goals as goal
 pub returns : goal.returns
 returns g c =
     let after = c.words_in-answer.new.self in
-    let sent : Identified g.D.Drive.does c.args.drive after c.first-phase.result.0 c.first-phase.result.1 =
-    record { answer = c.words_in-answer.result; words = c.words_in-answer.new.into; sent = c.words_in-answer.ensures; begins = c.first-phase.ensures } in
+    let sent : Identified g.D.Drive.does c.args.drive after c.first-phase.result =
+    record { answer = c.words_in-answer.result; words = c.words_in-answer.new.into; sent = rw c.plain_task.ensures at c.words_in-answer.ensures; begins = c.first-phase.ensures } in
     record {
       sent = sent;
-      remembers = identified_knows g.D.Drive.does g.D.Drive.meaning g.met.D.Drive.formed g.met.D.Drive.agrees c.args.drive after c.first-phase.result.0 c.first-phase.result.1 sent;
+      remembers = identified_knows g.D.Drive.does g.D.Drive.meaning g.met.D.Drive.formed g.met.D.Drive.agrees c.args.drive after c.first-phase.result sent;
     }
