@@ -1,9 +1,5 @@
 //! The acts of a session.
 
-ghost use Rattle.std.specs.Prelude.{◌≡◌, IfOk};
-
-use std::alloc::{AllocError, Global};
-
 #[derive(Drop)]
 pub enum Act {
     /// Makes a disk.
@@ -18,21 +14,19 @@ pub enum Act {
     Call(Call),
 }
 
-/// A disk to make.
+/// A disk of zeros to make, and those of its blocks that cannot be read.
 #[derive(Drop)]
-pub enum DiskPlan {
-    /// A plain disk of zeros, some of whose blocks cannot be read.
-    Plain {
-        blocks: u32,
-        bad: Vec<u32>,
-    },
-    /// A caching disk of zeros, likewise; its cache on or off at first, and whether it takes the write through it.
-    Caching {
-        blocks: u32,
-        bad: Vec<u32>,
-        cache: bool,
-        through: bool,
-    },
+pub struct DiskPlan {
+    pub blocks: u32,
+    pub bad: Vec<u32>,
+    pub kind: DiskKind,
+}
+
+#[derive(Clone, Copy, PartialEq, Eq, Debug)]
+pub enum DiskKind {
+    Plain,
+    /// Its cache on or off at first, and whether it takes the write through it.
+    Caching { cache: bool, through: bool },
 }
 
 /// A call of the unit: the CDB, data-out as `out` bytes of `fill`, data-in of `into` bytes, and how many of them to show.
@@ -43,20 +37,4 @@ pub struct Call {
     pub fill: u8,
     pub into: usize,
     pub show: usize,
-}
-
-impl Call {
-    /// A call with no data.
-    pub(crate) fn bare(heap: Global, cdb: &[u8]) -> Result<Call, AllocError>
-        ensures { IfOk result (λ c. (c.cdb.items ≡ cdb.now) × (c.out ≡ 0) × (c.fill ≡ 0) × (c.into ≡ 0) × (c.show ≡ 0)) }
-    {
-        let cdb = Vec::from_slice(heap, cdb)?;
-        Ok(Call {
-            cdb,
-            out: 0,
-            fill: 0,
-            into: 0,
-            show: 0,
-        })
-    }
 }

@@ -12,8 +12,8 @@ mod stop;
 mod words;
 mod wrong;
 
-pub use act::{Act, Call, DiskPlan};
+pub use act::{Act, Call, DiskKind, DiskPlan};
 pub use line::{parse, written};
 pub use lines::{Line, Script, read_script};
-pub use stop::Stop;
+pub use stop::{Misfit, Reason, Stop};
 pub use wrong::Wrong;

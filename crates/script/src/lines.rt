@@ -4,7 +4,7 @@ ghost use Rattle.std.specs.Prelude.{◌≡◌};
 
 use crate::act::Act;
 use crate::line::{parse, written};
-use crate::stop::Stop;
+use crate::stop::{Misfit, Reason, Stop};
 use std::alloc::{AllocError, Global};
 use std::fmt;
 
@@ -18,12 +18,12 @@ pub struct Line {
 
 impl Line {
     /// The act does not fit the state of the bay.
-    pub fn misfit(&self, why: &'static str) -> Stop
-        ensures { result.line ≡ self.now.number }
+    pub fn misfit(&self, why: Misfit) -> Stop
+        ensures { result ≡ record { line = self.now.number; why = Reason.Misfit why } }
     {
         Stop {
             line: self.number,
-            why,
+            why: Reason::Misfit(why),
         }
     }
 }
@@ -46,16 +46,15 @@ pub struct Script {
 /// Reads a text as a script. Its lines are numbered from 1.
 pub fn read_script(heap: Global, text: &str) -> Result<Script, AllocError> {
     let mut lines = Vec::new(heap);
-    let mut number = 0u64;
-    for line in text.lines() {
-        number = number.saturating_add(1);
+    for (before, line) in text.lines().enumerate() {
+        let number = (before as u64).saturating_add(1);
         let act = match parse(heap, line) {
             Ok(None) => continue,
             Ok(Some(act)) => act,
             Err(wrong) => {
                 let bad = Some(Stop {
                     line: number,
-                    why: wrong.words(),
+                    why: wrong.into(),
                 });
                 return Ok(Script { lines, bad });
             }

@@ -46,28 +46,19 @@ pub(crate) fn number(word: &str) -> Result<u64, Wrong>
     ensures { Reads 64 word.now result }
 {
     let (radix, digits) = base(word);
-    match u64::from_str_radix(digits, radix) {
-        Ok(n) => Ok(n),
-        Err(_) => Err(Wrong::Number),
-    }
+    u64::from_str_radix(digits, radix).map_err(|_| Wrong::Number)
 }
 
 /// A number of 32 bits.
 pub(crate) fn number32(word: &str) -> Result<u32, Wrong>
     ensures { Reads 32 word.now result }
 {
-    match number(word) {
-        Ok(n) if n <= 0xFFFF_FFFF => Ok(n as u32),
-        _ => Err(Wrong::Number),
-    }
+    u32::try_from(number(word)?).map_err(|_| Wrong::Number)
 }
 
 /// A number of 16 bits.
 pub(crate) fn number16(word: &str) -> Result<u16, Wrong>
     ensures { Reads 16 word.now result }
 {
-    match number(word) {
-        Ok(n) if n <= 0xFFFF => Ok(n as u16),
-        _ => Err(Wrong::Number),
-    }
+    u16::try_from(number(word)?).map_err(|_| Wrong::Number)
 }

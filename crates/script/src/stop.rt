@@ -1,27 +1,34 @@
 //! Why a session ends before its script does.
 
-use std::error::Error;
-use std::fmt;
+use crate::wrong::Wrong;
+use thiserror::Error;
+
+/// Why an act does not fit the state of the bay.
+#[derive(Clone, Copy, PartialEq, Eq, Debug, Error)]
+pub enum Misfit {
+    #[error("there is a disk already")]
+    SecondDisk,
+    #[error("there is no disk")]
+    NoDisk,
+    #[error("a disk is attached already")]
+    Attached,
+    #[error("no disk is attached")]
+    NotAttached,
+}
+
+/// Either.
+#[derive(Clone, Copy, PartialEq, Eq, Debug, Error)]
+pub enum Reason {
+    #[error(transparent)]
+    Wrong(#[from] Wrong),
+    #[error(transparent)]
+    Misfit(#[from] Misfit),
+}
 
 /// A line that makes no sense, or whose act does not fit the state of the bay.
-#[derive(Clone, Copy)]
+#[derive(Clone, Copy, PartialEq, Eq, Debug, Error)]
+#[error("line {line}: {why}")]
 pub struct Stop {
     pub line: u64,
-    pub why: &'static str,
+    pub why: Reason,
 }
-
-impl fmt::Display for Stop {
-    fn fmt<W: fmt::Write>(&self, f: &mut fmt::Formatter<W>) -> fmt::Result {
-        let line = self.line;
-        let why = self.why;
-        write!(f, "line {line}: {why}")
-    }
-}
-
-impl fmt::Debug for Stop {
-    fn fmt<W: fmt::Write>(&self, f: &mut fmt::Formatter<W>) -> fmt::Result {
-        write!(f, "{self}")
-    }
-}
-
-impl Error for Stop {}

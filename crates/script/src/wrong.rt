@@ -1,40 +1,26 @@
-//! What is wrong with a line.
+//! Why a line makes no sense.
 
 use std::alloc::{AllocError, AllocFailed};
+use thiserror::Error;
 
-#[derive(Clone, Copy)]
+#[derive(Clone, Copy, PartialEq, Eq, Debug, Error)]
 pub enum Wrong {
-    /// The first word names no act.
+    #[error("no such act")]
     Act,
-    /// There is no such kind of disk.
+    #[error("no such kind of disk")]
     Kind,
-    /// A number is missing.
+    #[error("a number is missing")]
     Missing,
-    /// A number is none, or too large for its field.
+    #[error("no number, or too large for its field")]
     Number,
-    /// A byte is not two hexadecimal digits.
+    #[error("no byte of two hexadecimal digits")]
     Byte,
-    /// A word that the act does not take.
+    #[error("a word that the act does not take")]
     Word,
-    /// An unreadable block past the end of the disk.
+    #[error("an unreadable block past the end of the disk")]
     PastEnd,
-    /// No memory is left.
+    #[error("no memory is left")]
     Memory,
-}
-
-impl Wrong {
-    pub fn words(self) -> &'static str {
-        match self {
-            Wrong::Act => "no such act",
-            Wrong::Kind => "no such kind of disk",
-            Wrong::Missing => "a number is missing",
-            Wrong::Number => "no number, or too large for its field",
-            Wrong::Byte => "no byte of two hexadecimal digits",
-            Wrong::Word => "a word that the act does not take",
-            Wrong::PastEnd => "an unreadable block past the end of the disk",
-            Wrong::Memory => "no memory is left",
-        }
-    }
 }
 
 impl From<AllocError> for Wrong {
