@@ -22,7 +22,7 @@ pub struct DiskPlan {
     pub kind: DiskKind,
 }
 
-#[derive(Clone, Copy, PartialEq, Eq, Debug)]
+#[derive(Clone, Copy)]
 pub enum DiskKind {
     Plain,
     /// Its cache on or off at first, and whether it takes the write through it.

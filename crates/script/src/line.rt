@@ -1,5 +1,8 @@
 //! A line as an act.
 
+ghost use Rattle.std.specs.Prelude.{◌≡◌};
+ghost use Rattle.script.specs.Lines.{written_of};
+
 use crate::act::Act;
 use crate::words::Words;
 use crate::wrong::Wrong;
@@ -7,7 +10,9 @@ use crate::{calls, disks};
 use std::alloc::Global;
 
 /// The act as it is written: the line with no comment, and no blanks around it.
-pub fn written(line: &str) -> &str {
+pub fn written(line: &str) -> &str
+    ensures { result.now ≡ written_of line.now }
+{
     match line.split_once('#') {
         Some((act, _)) => act.trim(),
         None => line.trim(),

@@ -1,6 +1,7 @@
 //! A whole script: its acts, up to the first line that makes no sense.
 
-ghost use Rattle.std.specs.Prelude.{◌≡◌};
+ghost use Rattle.std.specs.Prelude.{◌≡◌, IfOk};
+ghost use Rattle.script.specs.Lines.{InOrder};
 
 use crate::act::Act;
 use crate::line::{parse, written};
@@ -44,10 +45,12 @@ pub struct Script {
 }
 
 /// Reads a text as a script. Its lines are numbered from 1.
-pub fn read_script(heap: Global, text: &str) -> Result<Script, AllocError> {
+pub fn read_script(heap: Global, text: &str) -> Result<Script, AllocError>
+    ensures { IfOk result InOrder }
+{
     let mut lines = Vec::new(heap);
     for (before, line) in text.lines().enumerate() {
-        let number = (before as u64).saturating_add(1);
+        let number = before as u64 + 1;
         let act = match parse(heap, line) {
             Ok(None) => continue,
             Ok(Some(act)) => act,

@@ -46,19 +46,19 @@ pub(crate) fn number(word: &str) -> Result<u64, Wrong>
     ensures { Reads 64 word.now result }
 {
     let (radix, digits) = base(word);
-    u64::from_str_radix(digits, radix).map_err(|_| Wrong::Number)
+    Ok(u64::from_str_radix(digits, radix)?)
 }
 
 /// A number of 32 bits.
 pub(crate) fn number32(word: &str) -> Result<u32, Wrong>
     ensures { Reads 32 word.now result }
 {
-    u32::try_from(number(word)?).map_err(|_| Wrong::Number)
+    Ok(u32::try_from(number(word)?)?)
 }
 
 /// A number of 16 bits.
 pub(crate) fn number16(word: &str) -> Result<u16, Wrong>
     ensures { Reads 16 word.now result }
 {
-    u16::try_from(number(word)?).map_err(|_| Wrong::Number)
+    Ok(u16::try_from(number(word)?)?)
 }

@@ -1,6 +1,7 @@
 //! Why a line makes no sense.
 
 use std::alloc::{AllocError, AllocFailed};
+use std::num::{ParseIntError, TryFromIntError};
 use thiserror::Error;
 
 #[derive(Clone, Copy, PartialEq, Eq, Debug, Error)]
@@ -32,5 +33,17 @@ impl From<AllocError> for Wrong {
 impl<T: Drop> From<AllocFailed<T>> for Wrong {
     fn from(_e: AllocFailed<T>) -> Wrong {
         Wrong::Memory
+    }
+}
+
+impl From<ParseIntError> for Wrong {
+    fn from(_e: ParseIntError) -> Wrong {
+        Wrong::Number
+    }
+}
+
+impl From<TryFromIntError> for Wrong {
+    fn from(_e: TryFromIntError) -> Wrong {
+        Wrong::Number
     }
 }
