@@ -1,6 +1,6 @@
 -- Lines whose numbers rise.
 use Rattle.std.proofs.Common.{ℕ, ◌<◌, ◌≤◌, List, [], ◌∷◌, ◌++◌, arith}
-use Rattle.script.specs.declared.lines.Line.{Line}
+use Rattle.acts.specs.declared.line.Line.{Line}
 use Rattle.script.specs.Lines.{RisesTo}
 
 -- more room at the top

@@ -2,8 +2,8 @@
 use Rattle.std.specs.Prelude.{ℕ, ◌<◌, ◌≤◌, List, [], ◌∷◌, ◌==◌, IfSome}
 use Rattle.std.specs.List.{before_first}
 use Rattle.std.specs.Str.{trim}
-use Rattle.script.specs.declared.lines.Line.{Line}
-use Rattle.script.specs.declared.lines.Script.{Script}
+use Rattle.acts.specs.declared.line.Line.{Line}
+use Rattle.acts.specs.declared.line.Script.{Script}
 
 -- a line with no comment, and no blanks around it
 abbrev pub written_of : List ℕ → List ℕ

@@ -1,9 +1,8 @@
 //! The calls that a line can make: each function takes the words after the act's name.
 
-use crate::act::Call;
 use crate::numbers::{byte, number16, number32};
 use crate::words::{Extra, Extras, Words, extra_of};
-use crate::wrong::Wrong;
+use acts::{Call, Wrong};
 use host::{read_capacity_cdb, read10_cdb, test_unit_ready_cdb, write10_cdb};
 
 /// No words.

@@ -1,9 +1,8 @@
 //! The disks that a line can plan: each function takes the words after the act's name.
 
-use crate::act::{DiskKind, DiskPlan};
 use crate::numbers::number32;
 use crate::words::Words;
-use crate::wrong::Wrong;
+use acts::{DiskKind, DiskPlan, Wrong};
 
 /// `plain BLOCKS [bad=N,N,..]`, or `caching BLOCKS [bad=N,N,..] [cache=on|off] [fua=on|off]`
 pub(crate) fn disk(mut words: Words<'_>) -> Result<DiskPlan, Wrong> {
@@ -17,7 +16,7 @@ pub(crate) fn disk(mut words: Words<'_>) -> Result<DiskPlan, Wrong> {
         if name == "bad" {
             add_blocks(&mut bad, value, blocks)?;
         } else {
-            kind.set(name, value)?;
+            set(&mut kind, name, value)?;
         }
     }
     Ok(DiskPlan { blocks, bad, kind })
@@ -35,19 +34,17 @@ fn kind(word: &str) -> Result<DiskKind, Wrong> {
     }
 }
 
-impl DiskKind {
-    // A switch of a caching disk.
-    fn set(&mut self, name: &str, value: &str) -> Result<(), Wrong> {
-        let DiskKind::Caching { cache, through } = self else {
-            return Err(Wrong::Word);
-        };
-        match name {
-            "cache" => *cache = switch(value)?,
-            "fua" => *through = switch(value)?,
-            _ => return Err(Wrong::Word),
-        }
-        Ok(())
+// A switch of a caching disk.
+fn set(kind: &mut DiskKind, name: &str, value: &str) -> Result<(), Wrong> {
+    let DiskKind::Caching { cache, through } = kind else {
+        return Err(Wrong::Word);
+    };
+    match name {
+        "cache" => *cache = switch(value)?,
+        "fua" => *through = switch(value)?,
+        _ => return Err(Wrong::Word),
     }
+    Ok(())
 }
 
 /// `on` or `off`

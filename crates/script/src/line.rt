@@ -3,10 +3,9 @@
 ghost use Rattle.std.specs.Prelude.{◌≡◌};
 ghost use Rattle.script.specs.Lines.{written_of};
 
-use crate::act::Act;
 use crate::words::Words;
-use crate::wrong::Wrong;
 use crate::{calls, disks};
+use acts::{Act, Wrong};
 use std::alloc::Global;
 
 /// The act as it is written: the line with no comment, and no blanks around it.

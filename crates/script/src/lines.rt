@@ -1,48 +1,11 @@
 //! A whole script: its acts, up to the first line that makes no sense.
 
-ghost use Rattle.std.specs.Prelude.{◌≡◌, IfOk};
+ghost use Rattle.std.specs.Prelude.{IfOk};
 ghost use Rattle.script.specs.Lines.{InOrder};
 
-use crate::act::Act;
 use crate::line::{parse, written};
-use crate::stop::{Misfit, Reason, Stop};
+use acts::{Line, Script, Stop};
 use std::alloc::{AllocError, Global};
-use std::fmt;
-
-/// An act, with its line as written.
-#[derive(Drop)]
-pub struct Line {
-    pub number: u64,
-    pub text: String,
-    pub act: Act,
-}
-
-impl Line {
-    /// The act does not fit the state of the bay.
-    pub fn misfit(&self, why: Misfit) -> Stop
-        ensures { result ≡ record { line = self.now.number; why = Reason.Misfit why } }
-    {
-        Stop {
-            line: self.number,
-            why: Reason::Misfit(why),
-        }
-    }
-}
-
-impl fmt::Display for Line {
-    fn fmt<W: fmt::Write>(&self, f: &mut fmt::Formatter<W>) -> fmt::Result {
-        let number = self.number;
-        let text = self.text.as_str();
-        write!(f, "{number}: {text}")
-    }
-}
-
-/// The acts, and the line that makes no sense, if one does.
-#[derive(Drop)]
-pub struct Script {
-    pub lines: Vec<Line>,
-    pub bad: Option<Stop>,
-}
 
 /// Reads a text as a script. Its lines are numbered from 1.
 pub fn read_script(heap: Global, text: &str) -> Result<Script, AllocError>

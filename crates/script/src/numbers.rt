@@ -3,7 +3,7 @@
 ghost use Rattle.std.specs.Prelude.{◌≡◌, ◌≤◌};
 ghost use Rattle.script.specs.Digits.{hex_digit, byte_of, base_of, digits_of, Reads};
 
-use crate::wrong::Wrong;
+use acts::Wrong;
 
 fn hex_digit(c: u8) -> Option<u8>
     ensures { result ≡ hex_digit c }

@@ -2,9 +2,8 @@
 
 ghost use Rattle.std.specs.Prelude.{◌≡◌};
 
-use crate::act::Call;
 use crate::numbers::{byte, number};
-use crate::wrong::Wrong;
+use acts::{Call, Wrong};
 use std::alloc::Global;
 use std::str::SplitWhitespace;
 

@@ -2,12 +2,12 @@
 
 use crate::run::Session;
 use crate::shown::Number;
+use acts::{DiskKind, DiskPlan, Line};
 use ata::Drive;
 use caching::CachingDisk;
 use host::{caching_image, plain_image};
 use plain::PlainDisk;
 use port::Port;
-use script::{DiskKind, DiskPlan, Line};
 use std::alloc::{AllocError, Global};
 use std::fmt;
 

@@ -2,7 +2,7 @@
 
 use crate::bay::Disk;
 use crate::counts::Counts;
-use script::{Act, DiskPlan, Line, Misfit};
+use acts::{Act, DiskPlan, Line, Misfit};
 
 /// A session, and whether a unit is in the bay.
 #[derive(Drop)]

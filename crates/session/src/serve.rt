@@ -3,8 +3,8 @@
 use crate::rows::Rows;
 use crate::run::Session;
 use crate::shown::Shown;
+use acts::{Act, Call, Line, Misfit};
 use ata::Drive;
-use script::{Act, Call, Line, Misfit};
 use unit::Unit;
 
 impl Session<'_> {
