@@ -33,6 +33,8 @@ pub(crate) fn read10(mut words: Words<'_>) -> Result<Call, Wrong> {
     Ok(extras.call(cdb))
 }
 
+// The CDB, the words taken and the way of the data are all that differ from READ: a function for both would take the three.
+
 /// `BLOCK COUNT [fua] [fill=HH]`
 pub(crate) fn write10(mut words: Words<'_>) -> Result<Call, Wrong> {
     let heap = words.heap;

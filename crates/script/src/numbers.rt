@@ -49,6 +49,8 @@ pub(crate) fn number(word: &str) -> Result<u64, Wrong>
     Ok(u64::from_str_radix(digits, radix)?)
 }
 
+// Two lines of code: one generic function would need a trait that says each type's width for its contract.
+
 /// A number of 32 bits.
 pub(crate) fn number32(word: &str) -> Result<u32, Wrong>
     ensures { Reads 32 word.now result }

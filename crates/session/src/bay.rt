@@ -41,6 +41,7 @@ impl Disk {
         port: Option<u32>,
         acts: &[Line],
     ) -> (Disk, anyhow::Result<()>) {
+        // The unit is over another type in each arm.
         match self {
             Disk::Plain(disk) => {
                 let (disk, ended) = behind(disk, session, port, acts);

@@ -4,7 +4,7 @@ use crate::bay::Disk;
 use crate::counts::Counts;
 use acts::{Act, DiskPlan, Line, Misfit};
 
-/// A session, and whether a unit is in the bay.
+/// What a session prints on, what it has come to, whether a unit is in the bay, and the disk that is not.
 #[derive(Drop)]
 pub struct Session<'a> {
     pub rt: &'a HostRuntime,
