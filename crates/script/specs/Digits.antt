@@ -1,8 +1,8 @@
 -- Bytes and numbers as they are written.
 use Rattle.std.specs.Prelude.{ℕ, ◌+◌, ◌-◌, ◌*◌, Bool, false, cond, ◌&&◌, List, [], ◌∷◌, drop, Some, None, Ok, Err, Option, Result, ◌==◌, nat_le}
 use Rattle.std.specs.Str.Parse.{ParsesUnsigned}
-use Rattle.script.specs.declared.wrong.Wrong.{Wrong}
-use Rattle.script.specs.declared.wrong.Wrong.TheVariants.{Byte}
+use Rattle.acts.specs.declared.wrong.Wrong.{Wrong}
+use Rattle.acts.specs.declared.wrong.Wrong.TheVariants.{Byte}
 
 -- 0 to 9, A to F, a to f
 abbrev pub hex_digit : ℕ → Option ℕ

@@ -1,18 +1,58 @@
-//! The disks that a line can plan: each function takes the words after the disk's kind.
+//! The disks that a line can plan: each function takes the words after the act's name.
 
-use crate::act::DiskPlan;
 use crate::numbers::number32;
-use crate::words::{next, none_left};
-use crate::wrong::Wrong;
-use std::alloc::Global;
-use std::str::SplitWhitespace;
+use crate::words::Words;
+use acts::{DiskKind, DiskPlan, Wrong};
 
-/// `KIND ..`
-pub(crate) fn disk(heap: Global, mut words: SplitWhitespace<'_>) -> Result<DiskPlan, Wrong> {
-    match next(&mut words)? {
-        "plain" => plain_disk(heap, words),
-        "caching" => caching_disk(heap, words),
+/// `plain BLOCKS [bad=N,N,..]`, or `caching BLOCKS [bad=N,N,..] [cache=on|off] [fua=on|off]`
+pub(crate) fn disk(mut words: Words<'_>) -> Result<DiskPlan, Wrong> {
+    let mut kind = kind(words.needed()?)?;
+    let blocks = number32(words.needed()?)?;
+    let mut bad = Vec::new(words.heap);
+    for word in words.rest {
+        let Some((name, value)) = word.split_once('=') else {
+            return Err(Wrong::Word);
+        };
+        if name == "bad" {
+            add_blocks(&mut bad, value, blocks)?;
+        } else {
+            set(&mut kind, name, value)?;
+        }
+    }
+    Ok(DiskPlan { blocks, bad, kind })
+}
+
+// The kind, as it is where nothing more is said.
+fn kind(word: &str) -> Result<DiskKind, Wrong> {
+    match word {
+        "plain" => Ok(DiskKind::Plain),
+        "caching" => Ok(DiskKind::Caching {
+            cache: true,
+            through: false,
+        }),
         _ => Err(Wrong::Kind),
+    }
+}
+
+// A switch of a caching disk.
+fn set(kind: &mut DiskKind, name: &str, value: &str) -> Result<(), Wrong> {
+    let DiskKind::Caching { cache, through } = kind else {
+        return Err(Wrong::Word);
+    };
+    match name {
+        "cache" => *cache = switch(value)?,
+        "fua" => *through = switch(value)?,
+        _ => return Err(Wrong::Word),
+    }
+    Ok(())
+}
+
+/// `on` or `off`
+fn switch(word: &str) -> Result<bool, Wrong> {
+    match word {
+        "on" => Ok(true),
+        "off" => Ok(false),
+        _ => Err(Wrong::Word),
     }
 }
 
@@ -28,56 +68,9 @@ fn add_blocks(bad: &mut Vec<u32>, list: &str, blocks: u32) -> Result<(), Wrong> 
     Ok(())
 }
 
-/// `plain BLOCKS [bad=N,N,..]`
-fn plain_disk(heap: Global, mut words: SplitWhitespace<'_>) -> Result<DiskPlan, Wrong> {
-    let blocks = number32(next(&mut words)?)?;
-    let mut bad = Vec::new(heap);
-    for word in words {
-        let Some(list) = word.strip_prefix("bad=") else {
-            return Err(Wrong::Word);
-        };
-        add_blocks(&mut bad, list, blocks)?;
-    }
-    Ok(DiskPlan::Plain { blocks, bad })
-}
-
-/// `on` or `off`
-fn switch(word: &str) -> Result<bool, Wrong> {
-    match word {
-        "on" => Ok(true),
-        "off" => Ok(false),
-        _ => Err(Wrong::Word),
-    }
-}
-
-/// `caching BLOCKS [bad=N,N,..] [cache=on|off] [fua=on|off]`
-fn caching_disk(heap: Global, mut words: SplitWhitespace<'_>) -> Result<DiskPlan, Wrong> {
-    let blocks = number32(next(&mut words)?)?;
-    let mut bad = Vec::new(heap);
-    let mut cache = true;
-    let mut through = false;
-    for word in words {
-        let Some((name, value)) = word.split_once('=') else {
-            return Err(Wrong::Word);
-        };
-        match name {
-            "bad" => add_blocks(&mut bad, value, blocks)?,
-            "cache" => cache = switch(value)?,
-            "fua" => through = switch(value)?,
-            _ => return Err(Wrong::Word),
-        }
-    }
-    Ok(DiskPlan::Caching {
-        blocks,
-        bad,
-        cache,
-        through,
-    })
-}
-
 /// `LIMIT`
-pub(crate) fn port(mut words: SplitWhitespace<'_>) -> Result<u32, Wrong> {
-    let limit = number32(next(&mut words)?)?;
-    none_left(words)?;
+pub(crate) fn port(mut words: Words<'_>) -> Result<u32, Wrong> {
+    let limit = number32(words.needed()?)?;
+    words.none_left()?;
     Ok(limit)
 }

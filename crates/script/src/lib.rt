@@ -1,19 +1,13 @@
-//! A lab session's script: its acts, how a line reads as one, and what the acts are made of.
+//! How a text reads as a lab session's script, line by line.
 
 #![tactic(auto)]
 
-mod act;
 mod calls;
 mod disks;
 mod line;
 mod lines;
 mod numbers;
-mod stop;
 mod words;
-mod wrong;
 
-pub use act::{Act, Call, DiskPlan};
 pub use line::{parse, written};
-pub use lines::{Line, Script, read_script};
-pub use stop::Stop;
-pub use wrong::Wrong;
+pub use lines::read_script;

@@ -1,61 +1,26 @@
 //! A whole script: its acts, up to the first line that makes no sense.
 
-ghost use Rattle.std.specs.Prelude.{◌≡◌};
+ghost use Rattle.std.specs.Prelude.{IfOk};
+ghost use Rattle.script.specs.Lines.{InOrder};
 
-use crate::act::Act;
 use crate::line::{parse, written};
-use crate::stop::Stop;
+use acts::{Line, Script, Stop};
 use std::alloc::{AllocError, Global};
-use std::fmt;
-
-/// An act, with its line as written.
-#[derive(Drop)]
-pub struct Line {
-    pub number: u64,
-    pub text: String,
-    pub act: Act,
-}
-
-impl Line {
-    /// The act does not fit the state of the bay.
-    pub fn misfit(&self, why: &'static str) -> Stop
-        ensures { result.line ≡ self.now.number }
-    {
-        Stop {
-            line: self.number,
-            why,
-        }
-    }
-}
-
-impl fmt::Display for Line {
-    fn fmt<W: fmt::Write>(&self, f: &mut fmt::Formatter<W>) -> fmt::Result {
-        let number = self.number;
-        let text = self.text.as_str();
-        write!(f, "{number}: {text}")
-    }
-}
-
-/// The acts, and the line that makes no sense, if one does.
-#[derive(Drop)]
-pub struct Script {
-    pub lines: Vec<Line>,
-    pub bad: Option<Stop>,
-}
 
 /// Reads a text as a script. Its lines are numbered from 1.
-pub fn read_script(heap: Global, text: &str) -> Result<Script, AllocError> {
+pub fn read_script(heap: Global, text: &str) -> Result<Script, AllocError>
+    ensures { IfOk result InOrder }
+{
     let mut lines = Vec::new(heap);
-    let mut number = 0u64;
-    for line in text.lines() {
-        number = number.saturating_add(1);
+    for (before, line) in text.lines().enumerate() {
+        let number = before as u64 + 1;
         let act = match parse(heap, line) {
             Ok(None) => continue,
             Ok(Some(act)) => act,
             Err(wrong) => {
                 let bad = Some(Stop {
                     line: number,
-                    why: wrong.words(),
+                    why: wrong.into(),
                 });
                 return Ok(Script { lines, bad });
             }

@@ -3,7 +3,7 @@
 ghost use Rattle.std.specs.Prelude.{◌≡◌, ◌≤◌};
 ghost use Rattle.script.specs.Digits.{hex_digit, byte_of, base_of, digits_of, Reads};
 
-use crate::wrong::Wrong;
+use acts::Wrong;
 
 fn hex_digit(c: u8) -> Option<u8>
     ensures { result ≡ hex_digit c }
@@ -46,28 +46,21 @@ pub(crate) fn number(word: &str) -> Result<u64, Wrong>
     ensures { Reads 64 word.now result }
 {
     let (radix, digits) = base(word);
-    match u64::from_str_radix(digits, radix) {
-        Ok(n) => Ok(n),
-        Err(_) => Err(Wrong::Number),
-    }
+    Ok(u64::from_str_radix(digits, radix)?)
 }
+
+// Two lines of code: one generic function would need a trait that says each type's width for its contract.
 
 /// A number of 32 bits.
 pub(crate) fn number32(word: &str) -> Result<u32, Wrong>
     ensures { Reads 32 word.now result }
 {
-    match number(word) {
-        Ok(n) if n <= 0xFFFF_FFFF => Ok(n as u32),
-        _ => Err(Wrong::Number),
-    }
+    Ok(u32::try_from(number(word)?)?)
 }
 
 /// A number of 16 bits.
 pub(crate) fn number16(word: &str) -> Result<u16, Wrong>
     ensures { Reads 16 word.now result }
 {
-    match number(word) {
-        Ok(n) if n <= 0xFFFF => Ok(n as u16),
-        _ => Err(Wrong::Number),
-    }
+    Ok(u16::try_from(number(word)?)?)
 }

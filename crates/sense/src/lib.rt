@@ -7,6 +7,7 @@ mod case;
 mod data;
 mod refusal;
 mod table;
+mod words;
 
 pub use c::{sense_result, sense_write};
 pub use case::{Sense, SenseValues};

@@ -11,8 +11,8 @@ more n k = min (n + k) 18446744073709551615
 -- one answer is one of the three, and sent so many ATA commands
 abbrev pub after_answer : Result Reply Refusal → Counts → Counts
 after_answer (Ok (Good t)) s =
-    record { acts = s.acts; good = more s.good 1; check = s.check; refused = s.refused; commands = more s.commands t.commands; detached = s.detached }
+    record { acts = s.acts; good = more s.good 1; check = s.check; refused = s.refused; commands = more s.commands t.commands }
 after_answer (Ok (Check fault t)) s =
-    record { acts = s.acts; good = s.good; check = more s.check 1; refused = s.refused; commands = more s.commands t.commands; detached = s.detached }
+    record { acts = s.acts; good = s.good; check = more s.check 1; refused = s.refused; commands = more s.commands t.commands }
 after_answer (Err refusal) s =
-    record { acts = s.acts; good = s.good; check = s.check; refused = more s.refused 1; commands = s.commands; detached = s.detached }
+    record { acts = s.acts; good = s.good; check = s.check; refused = more s.refused 1; commands = s.commands }

@@ -1,16 +1,13 @@
 //! The disks that can be put into the bay.
 
-ghost use Rattle.std.specs.Prelude.{◌≤◌, length, IfOk};
-
-use crate::counts::Counts;
-use crate::serve::run_unit;
+use crate::run::Session;
 use crate::shown::Number;
+use acts::{DiskKind, DiskPlan, Line};
 use ata::Drive;
 use caching::CachingDisk;
 use host::{caching_image, plain_image};
 use plain::PlainDisk;
 use port::Port;
-use script::{DiskPlan, Line};
 use std::alloc::{AllocError, Global};
 use std::fmt;
 
@@ -23,41 +20,36 @@ pub enum Disk {
 
 impl Disk {
     pub fn make(heap: Global, plan: &DiskPlan) -> Result<Disk, AllocError> {
-        match plan {
-            DiskPlan::Plain { blocks, bad } => {
-                let image = plain_image(heap, *blocks, bad.as_slice())?;
+        let blocks = plan.blocks;
+        let bad = plan.bad.as_slice();
+        match plan.kind {
+            DiskKind::Plain => {
+                let image = plain_image(heap, blocks, bad)?;
                 Ok(Disk::Plain(PlainDisk::new(image)))
             }
-            DiskPlan::Caching {
-                blocks,
-                bad,
-                cache,
-                through,
-            } => {
-                let image = caching_image(heap, *blocks, bad.as_slice())?;
-                Ok(Disk::Caching(CachingDisk::new(image, *cache, *through)))
+            DiskKind::Caching { cache, through } => {
+                let image = caching_image(heap, blocks, bad)?;
+                Ok(Disk::Caching(CachingDisk::new(image, cache, through)))
             }
         }
     }
 
-    /// Puts the disk into the bay, behind a port where there is one, for the acts up to its detachment.
+    /// Puts the disk into the bay for the acts, behind a port where there is one.
     pub fn serve(
         self,
-        rt: &HostRuntime,
+        session: &mut Session<'_>,
         port: Option<u32>,
-        lines: &[Line],
-        counts: &mut Counts,
-    ) -> (Disk, anyhow::Result<usize>)
-        ensures { IfOk result.1 (λ n. n ≤ length lines.now) }
-    {
+        acts: &[Line],
+    ) -> (Disk, anyhow::Result<()>) {
+        // The unit is over another type in each arm.
         match self {
             Disk::Plain(disk) => {
-                let (disk, taken) = behind(rt, disk, port, lines, counts);
-                (Disk::Plain(disk), taken)
+                let (disk, ended) = behind(disk, session, port, acts);
+                (Disk::Plain(disk), ended)
             }
             Disk::Caching(disk) => {
-                let (disk, taken) = behind(rt, disk, port, lines, counts);
-                (Disk::Caching(disk), taken)
+                let (disk, ended) = behind(disk, session, port, acts);
+                (Disk::Caching(disk), ended)
             }
         }
     }
@@ -65,38 +57,29 @@ impl Disk {
 
 // A drive, behind a port where there is one.
 fn behind<D: Drive>(
-    rt: &HostRuntime,
     drive: D,
+    session: &mut Session<'_>,
     port: Option<u32>,
-    lines: &[Line],
-    counts: &mut Counts,
-) -> (D, anyhow::Result<usize>)
-    ensures { IfOk result.1 (λ n. n ≤ length lines.now) }
-{
+    acts: &[Line],
+) -> (D, anyhow::Result<()>) {
     match port {
-        None => run_unit(rt, drive, lines, counts),
+        None => session.run_unit(drive, acts),
         Some(limit) => {
-            let (drive, taken) = run_unit(rt, Port::new(drive, limit), lines, counts);
-            (drive.into_inner(), taken)
+            let (drive, ended) = session.run_unit(Port::new(drive, limit), acts);
+            (drive.into_inner(), ended)
         }
     }
 }
 
 impl fmt::Display for Disk {
     fn fmt<W: fmt::Write>(&self, f: &mut fmt::Formatter<W>) -> fmt::Result {
-        match self {
-            Disk::Plain(disk) => {
-                let blocks = Number(disk.blocks(), "block");
-                let errors = Number(disk.errors() as u64, "error");
-                let orders = Number(disk.orders(), "ATA command");
-                write!(f, "plain disk, {blocks}, {errors}, {orders} taken")
-            }
-            Disk::Caching(disk) => {
-                let blocks = Number(disk.blocks(), "block");
-                let errors = Number(disk.errors() as u64, "error");
-                let orders = Number(disk.orders(), "ATA command");
-                write!(f, "caching disk, {blocks}, {errors}, {orders} taken")
-            }
-        }
+        let (kind, blocks, errors, orders) = match self {
+            Disk::Plain(disk) => ("plain", disk.blocks(), disk.errors(), disk.orders()),
+            Disk::Caching(disk) => ("caching", disk.blocks(), disk.errors(), disk.orders()),
+        };
+        let blocks = Number(blocks, "block");
+        let errors = Number(errors as u64, "error");
+        let orders = Number(orders, "ATA command");
+        write!(f, "{kind} disk, {blocks}, {errors}, {orders} taken")
     }
 }

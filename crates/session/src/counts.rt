@@ -1,6 +1,6 @@
 //! What a session has come to so far.
 
-ghost use Rattle.std.specs.Prelude.{◌≡◌, true};
+ghost use Rattle.std.specs.Prelude.{◌≡◌};
 ghost use Rattle.session.specs.Counting.{after_answer};
 
 use crate::shown::Number;
@@ -8,32 +8,17 @@ use sense::Refusal;
 use std::fmt;
 use unit::Reply;
 
-/// The acts begun, the commands by what they came to, the ATA commands that the units sent,
-/// and whether the last unit was detached.
-#[derive(Clone, Copy)]
+/// The acts begun, the commands by what they came to, and the ATA commands that the units sent.
+#[derive(Clone, Copy, Default)]
 pub struct Counts {
     pub acts: u64,
     pub good: u64,
     pub check: u64,
     pub refused: u64,
     pub commands: u64,
-    pub detached: bool,
 }
 
 impl Counts {
-    pub fn new() -> Counts
-        ensures { result ≡ record { acts = 0; good = 0; check = 0; refused = 0; commands = 0; detached = true } }
-    {
-        Counts {
-            acts: 0,
-            good: 0,
-            check: 0,
-            refused: 0,
-            commands: 0,
-            detached: true,
-        }
-    }
-
     pub fn count_answer(&mut self, answer: Result<Reply, Refusal>)
         ensures { self.new ≡ after_answer answer self.old }
     {
@@ -53,19 +38,18 @@ impl Counts {
 
 impl fmt::Display for Counts {
     fn fmt<W: fmt::Write>(&self, f: &mut fmt::Formatter<W>) -> fmt::Result {
-        let acts = Number(self.acts, "act");
-        let good = self.good;
-        let check = self.check;
-        let refused = self.refused;
-        let commands = Number(self.commands, "ATA command");
-        let end = if self.detached {
-            ""
-        } else {
-            "; the unit that was still attached is detached"
-        };
+        let Counts {
+            acts,
+            good,
+            check,
+            refused,
+            commands,
+        } = *self;
+        let acts = Number(acts, "act");
+        let commands = Number(commands, "ATA command");
         write!(
             f,
-            "{acts}: {good} GOOD, {check} CHECK CONDITION, {refused} refused; {commands}{end}"
+            "{acts}: {good} GOOD, {check} CHECK CONDITION, {refused} refused; {commands}"
         )
     }
 }

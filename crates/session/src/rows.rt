@@ -8,12 +8,11 @@ pub struct Rows<'a>(pub &'a [u8]);
 
 impl fmt::Display for Rows<'_> {
     fn fmt<W: fmt::Write>(&self, f: &mut fmt::Formatter<W>) -> fmt::Result {
-        for (i, byte) in self.0.iter().enumerate() {
-            if i % 16 == 0 {
-                f.write_str("\n   ")?;
+        for row in self.0.chunks(16) {
+            f.write_str("\n   ")?;
+            for &byte in row {
+                write!(f, " {byte:02X}")?;
             }
-            let byte = *byte;
-            write!(f, " {byte:02X}")?;
         }
         Ok(())
     }

@@ -1,98 +1,125 @@
-//! A whole session: the acts between units.
-
-ghost use Rattle.std.specs.Prelude.{◌≤◌, length, IfOk};
+//! A whole session: what it prints on, what it has come to, and the acts between units.
 
 use crate::bay::Disk;
 use crate::counts::Counts;
-use crate::serve::announce;
-use script::{Act, DiskPlan, Line};
+use acts::{Act, DiskPlan, Line, Misfit};
 
-/// The disk at hand, whether it was in the bay yet, and the limit of the port before it.
+/// What a session prints on, what it has come to, whether a unit is in the bay, and the disk that is not.
 #[derive(Drop)]
-pub struct Hand {
-    disk: Option<Disk>,
+pub struct Session<'a> {
+    pub rt: &'a HostRuntime,
+    pub counts: Counts,
+    pub attached: bool,
+    hand: Option<Hand>,
+}
+
+/// A disk at hand, whether it is still to be in the bay, and the limit of the port before it.
+#[derive(Drop)]
+struct Hand {
+    disk: Disk,
     fresh: bool,
     port: Option<u32>,
 }
 
-impl Hand {
-    pub fn empty() -> Hand {
-        Hand {
-            disk: None,
-            fresh: false,
+impl<'a> Session<'a> {
+    pub fn new(rt: &'a HostRuntime) -> Session<'a> {
+        Session {
+            rt,
+            counts: Counts::default(),
+            attached: false,
+            hand: None,
+        }
+    }
+}
+
+impl Session<'_> {
+    /// Prints an act, and counts it.
+    pub fn announce(&mut self, line: &Line) -> anyhow::Result<()> {
+        self.counts.acts = self.counts.acts.saturating_add(1);
+        println!(self.rt; "{line}")?;
+        Ok(())
+    }
+
+    /// Prints what the session came to.
+    pub fn sum_up(&self) -> anyhow::Result<()> {
+        let counts = self.counts;
+        let end = if self.attached {
+            "; the unit that was still attached is detached"
+        } else {
+            ""
+        };
+        println!(self.rt; "{counts}{end}")?;
+        Ok(())
+    }
+
+    // Makes a disk. One that was in the bay before gives way to it.
+    fn make_disk(&mut self, line: &Line, plan: &DiskPlan) -> anyhow::Result<()> {
+        if let Some(Hand { fresh: true, .. }) = &self.hand {
+            return Err(line.misfit(Misfit::SecondDisk).into());
+        }
+        let disk = Disk::make(self.rt.alloc(), plan)?;
+        println!(self.rt; "    {disk}")?;
+        self.hand = Some(Hand {
+            disk,
+            fresh: true,
             port: None,
+        });
+        Ok(())
+    }
+
+    // Puts a port before the disk, in the place of one that was there.
+    fn put_port(&mut self, line: &Line, limit: u32) -> anyhow::Result<()> {
+        match &mut self.hand {
+            None => return Err(line.misfit(Misfit::NoDisk).into()),
+            Some(hand) => hand.port = Some(limit),
         }
+        println!(self.rt; "    a port before the disk")?;
+        Ok(())
     }
-}
 
-/// Makes a disk. One that was in the bay before gives way to it.
-fn make_disk(
-    rt: &HostRuntime,
-    line: &Line,
-    plan: &DiskPlan,
-    hand: &mut Hand,
-) -> anyhow::Result<()> {
-    if hand.fresh {
-        return Err(line.misfit("there is a disk already").into());
+    // Puts the disk into the bay for the acts.
+    fn attach(&mut self, line: &Line, acts: &[Line]) -> anyhow::Result<()> {
+        let Some(
+            Hand {
+                disk,
+                fresh: _,
+                port,
+            },
+        ) = self.hand.take()
+        else {
+            return Err(line.misfit(Misfit::NoDisk).into());
+        };
+        println!(self.rt; "    attached, 1 ATA command")?;
+        let (disk, ended) = disk.serve(self, port, acts);
+        ended?;
+        println!(self.rt; "    {disk}")?;
+        self.hand = Some(Hand {
+            disk,
+            fresh: false,
+            port,
+        });
+        Ok(())
     }
-    let disk = Disk::make(rt.alloc(), plan)?;
-    println!(rt; "    {disk}")?;
-    hand.disk = Some(disk);
-    hand.fresh = true;
-    hand.port = None;
-    Ok(())
-}
 
-/// Puts a port before the disk, in the place of one that was there.
-fn put_port(rt: &HostRuntime, line: &Line, limit: u32, hand: &mut Hand) -> anyhow::Result<()> {
-    if hand.disk.is_none() {
-        return Err(line.misfit("there is no disk").into());
-    }
-    println!(rt; "    a port before the disk")?;
-    hand.port = Some(limit);
-    Ok(())
-}
-
-/// Puts the disk into the bay. The result is how many of the acts that follow the unit took.
-fn attach(
-    rt: &HostRuntime,
-    line: &Line,
-    rest: &[Line],
-    hand: &mut Hand,
-    counts: &mut Counts,
-) -> anyhow::Result<usize>
-    ensures { IfOk result (λ n. n ≤ length rest.now) }
-{
-    let Some(disk) = hand.disk.take() else {
-        return Err(line.misfit("there is no disk").into());
-    };
-    println!(rt; "    attached, 1 ATA command")?;
-    let (disk, taken) = disk.serve(rt, hand.port, rest, counts);
-    let taken = taken?;
-    println!(rt; "    {disk}")?;
-    hand.disk = Some(disk);
-    hand.fresh = false;
-    Ok(taken)
-}
-
-/// Carries out the acts.
-pub fn run_lines(
-    rt: &HostRuntime,
-    lines: &[Line],
-    hand: &mut Hand,
-    counts: &mut Counts,
-) -> anyhow::Result<()> {
-    let mut at = 0;
-    while at < lines.len() {
-        let line = &lines[at];
-        announce(rt, line, counts)?;
-        at += 1;
-        match &line.act {
-            Act::Disk(plan) => make_disk(rt, line, plan, hand)?,
-            Act::Port(limit) => put_port(rt, line, *limit, hand)?,
-            Act::Attach => at += attach(rt, line, &lines[at..], hand, counts)?,
-            Act::Detach | Act::Call(_) => return Err(line.misfit("no disk is attached").into()),
+    // Carries out acts that end at their first detachment, so that a unit takes all those after its attachment.
+    fn run_part(&mut self, acts: &[Line]) -> anyhow::Result<()> {
+        for (at, line) in acts.iter().enumerate() {
+            self.announce(line)?;
+            match &line.act {
+                Act::Disk(plan) => self.make_disk(line, plan)?,
+                Act::Port(limit) => self.put_port(line, *limit)?,
+                Act::Attach => return self.attach(line, &acts[at + 1..]),
+                Act::Detach | Act::Call(_) => return Err(line.misfit(Misfit::NotAttached).into()),
+            }
         }
+        Ok(())
     }
-    Ok(())
+
+    /// Carries out the acts.
+    pub fn run(&mut self, lines: &[Line]) -> anyhow::Result<()> {
+        for part in lines.split_inclusive(|line| matches!(line.act, Act::Detach)) {
+            self.run_part(part)?;
+        }
+        Ok(())
+    }
 }

@@ -12,7 +12,7 @@ use ata::Drive;
 use host::{plain_image, read10_cdb, test_unit_ready_cdb, write10_cdb};
 use plain::PlainDisk;
 use std::time::Duration;
-use turns::{BYTES, TURNS, copies, reads, writes};
+use turns::{BYTES, TURNS, copy, good, timed};
 use unit::Unit;
 
 fn through_unit<D: Drive>(
@@ -23,8 +23,15 @@ fn through_unit<D: Drive>(
 ) -> anyhow::Result<(Duration, Duration)> {
     // The first command reports the attention of a new unit.
     let _ = unit.command(&test_unit_ready_cdb(), &[], &mut []);
-    let written = writes(rt, unit, &write10_cdb(0, 256, false), from, to)?;
-    let read = reads(rt, unit, &read10_cdb(0, 256, false), from, to)?;
+    let write = write10_cdb(0, 256, false);
+    let written = timed(
+        rt,
+        from,
+        to,
+        |from, _| good(unit.command(&write, from, &mut [])),
+    )?;
+    let read = read10_cdb(0, 256, false);
+    let read = timed(rt, from, to, |_, to| good(unit.command(&read, &[], to)))?;
     Ok((written, read))
 }
 
@@ -39,7 +46,12 @@ fn measure(rt: &HostRuntime) -> anyhow::Result<()> {
     let heap = rt.alloc();
     let mut from = vec![in heap; 0x5Au8; BYTES]?;
     let mut to = vec![in heap; 0xA5u8; BYTES]?;
-    let copied = copies(rt, from.as_mut_slice(), to.as_mut_slice())?;
+    let copied = timed(
+        rt,
+        from.as_mut_slice(),
+        to.as_mut_slice(),
+        |from, to| copy(from, to),
+    )?;
     let mut unit = Unit::attach(PlainDisk::new(plain_image(heap, 256, &[])?));
     let timed = through_unit(rt, &mut unit, from.as_mut_slice(), to.as_mut_slice());
     let _ = unit.detach();

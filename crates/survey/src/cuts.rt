@@ -4,6 +4,13 @@ use ata::{Answer, AtaCommand, Drive, Feature, TaskFile};
 use caching::CachingDisk;
 use host::caching_image;
 
+/// The cells of a block's medium and of its face; in each, the content stands after one byte.
+const PAIR: usize = 1026;
+
+const MEDIUM: usize = 1;
+
+const FACE: usize = 514;
+
 fn task(command: AtaCommand, count: u16) -> TaskFile {
     TaskFile {
         command,
@@ -13,13 +20,10 @@ fn task(command: AtaCommand, count: u16) -> TaskFile {
     }
 }
 
-// The first byte of the content of each block's cell from byte `at` of the block on.
-fn show_cells(rt: &HostRuntime, image: &[u8], at: u16) -> anyhow::Result<()> {
-    for block in 0..6usize {
-        let byte = image
-            .get(1026 * block + at as usize + 1)
-            .copied()
-            .unwrap_or(0);
+// The byte at `at` of each block's pair of cells.
+fn show_cells(rt: &HostRuntime, image: &[u8], at: usize) -> anyhow::Result<()> {
+    for pair in image.chunks(PAIR) {
+        let byte = pair.get(at).copied().unwrap_or(0);
         print!(rt; " {byte:02X}")?;
     }
     Ok(())
@@ -41,9 +45,9 @@ fn cut_write(rt: &HostRuntime, command: AtaCommand, steps: u32) -> anyhow::Resul
     disk.back();
     let image = disk.into_image();
     print!(rt; "    {steps} steps: {status:02X}h {error:02X}h {block}, medium")?;
-    show_cells(rt, image.as_slice(), 0)?;
+    show_cells(rt, image.as_slice(), MEDIUM)?;
     print!(rt; ", face")?;
-    show_cells(rt, image.as_slice(), 513)?;
+    show_cells(rt, image.as_slice(), FACE)?;
     println!(rt; "")?;
     Ok(())
 }

@@ -1,6 +1,7 @@
 //! Every command, lit and dark, with short and long buffers.
 
 use ata::{Answer, AtaCommand, Drive, Feature, TaskFile};
+use std::alloc::{AllocError, Global};
 
 const COMMANDS: [AtaCommand; 14] = [
     AtaCommand::IdentifyDevice,
@@ -21,35 +22,50 @@ const COMMANDS: [AtaCommand; 14] = [
 
 /// The lengths of the buffers: for two blocks, and one byte or word less.
 #[derive(Clone, Copy)]
-struct Buffers {
+struct Lengths {
     bytes: usize,
     words: usize,
 }
 
-const LONG: Buffers = Buffers {
+const LONG: Lengths = Lengths {
     bytes: 1024,
     words: 256,
 };
 
-const SHORT: Buffers = Buffers {
+const SHORT: Lengths = Lengths {
     bytes: 1023,
     words: 255,
 };
 
-// One command by the kind of call that is its own.
-fn send<D: Drive>(
-    drive: &mut D,
-    task: TaskFile,
-    out: &[u8],
-    into: &mut [u8],
-    words: &mut [u16],
-) -> Answer {
-    match task.command {
-        AtaCommand::IdentifyDevice => drive.words_in(task, words),
-        AtaCommand::ReadDma | AtaCommand::ReadDmaExt => drive.data_in(task, into),
-        AtaCommand::WriteDma | AtaCommand::WriteDmaExt | AtaCommand::WriteDmaFuaExt =>
-            drive.data_out(task, out),
-        _ => drive.no_data(task),
+/// A buffer for each kind of call with data.
+#[derive(Drop)]
+struct Buffers {
+    out: Vec<u8>,
+    into: Vec<u8>,
+    words: Vec<u16>,
+}
+
+impl Buffers {
+    fn new(heap: Global, lengths: Lengths) -> Result<Buffers, AllocError> {
+        Ok(Buffers {
+            out: vec![in heap; 0x5Au8; lengths.bytes]?,
+            into: vec![in heap; 0u8; lengths.bytes]?,
+            words: vec![in heap; 0u16; lengths.words]?,
+        })
+    }
+
+    // One command by the kind of call that is its own.
+    fn send<D: Drive>(&mut self, drive: &mut D, task: TaskFile) -> Answer {
+        match task.command {
+            AtaCommand::IdentifyDevice => drive.words_in(task, self.words.as_mut_slice()),
+            AtaCommand::ReadDma | AtaCommand::ReadDmaExt => drive.data_in(
+                task,
+                self.into.as_mut_slice(),
+            ),
+            AtaCommand::WriteDma | AtaCommand::WriteDmaExt | AtaCommand::WriteDmaFuaExt =>
+                drive.data_out(task, self.out.as_slice()),
+            _ => drive.no_data(task),
+        }
     }
 }
 
@@ -58,12 +74,9 @@ fn show<D: Drive>(
     rt: &HostRuntime,
     drive: &mut D,
     block: u64,
-    buffers: Buffers,
+    lengths: Lengths,
 ) -> anyhow::Result<()> {
-    let heap = rt.alloc();
-    let out = vec![in heap; 0x5Au8; buffers.bytes]?;
-    let mut into = vec![in heap; 0u8; buffers.bytes]?;
-    let mut words = vec![in heap; 0u16; buffers.words]?;
+    let mut buffers = Buffers::new(rt.alloc(), lengths)?;
     for command in COMMANDS {
         let task = TaskFile {
             command,
@@ -71,18 +84,11 @@ fn show<D: Drive>(
             count: 2,
             block,
         };
-        let answer = send(
-            drive,
-            task,
-            out.as_slice(),
-            into.as_mut_slice(),
-            words.as_mut_slice(),
-        );
         let Answer {
             status,
             error,
             block,
-        } = answer;
+        } = buffers.send(drive, task);
         let code = command as u8;
         println!(rt; "    {code:02X}h: {status:02X}h {error:02X}h {block}")?;
     }

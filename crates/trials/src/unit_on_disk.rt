@@ -7,35 +7,32 @@ use std::test::Fail;
 use transfer::Tally;
 use unit::{Reply, Unit};
 
-/// What a call came to, in numbers that are easy to compare.
+/// What a call came to, in numbers that are easy to compare: the key and the code of its sense where it was not GOOD.
 #[derive(Clone, Copy, PartialEq, Eq, Debug)]
 struct Told {
-    key: u8,
-    code: u8,
+    sense: Option<(u8, u8)>,
     block: Option<u64>,
     bytes: usize,
     commands: u64,
 }
 
-const GOOD: u8 = 0;
-
-fn numbers(reply: Reply) -> Told {
-    match reply {
-        Reply::Good(tally) => Told {
-            key: GOOD,
-            code: 0,
-            block: None,
-            bytes: tally.bytes,
-            commands: tally.commands,
-        },
-        Reply::Check(fault, tally) => {
-            let values = fault.sense.values();
-            Told {
-                key: values.key,
-                code: values.code,
-                block: fault.block,
-                bytes: tally.bytes,
-                commands: tally.commands,
+impl From<Reply> for Told {
+    fn from(reply: Reply) -> Told {
+        match reply {
+            Reply::Good(Tally { bytes, commands }) => Told {
+                sense: None,
+                block: None,
+                bytes,
+                commands,
+            },
+            Reply::Check(fault, Tally { bytes, commands }) => {
+                let values = fault.sense.values();
+                Told {
+                    sense: Some((values.key, values.code)),
+                    block: fault.block,
+                    bytes,
+                    commands,
+                }
             }
         }
     }
@@ -53,16 +50,12 @@ fn on_sixteen(rt: &(impl Abort + AllocGlobal), cdb: &[u8]) -> Result<Result<Told
     let _ = unit.command(&[0, 0, 0, 0, 0, 0], &[], &mut []);
     let answer = unit.command(cdb, out.as_slice(), into.as_mut_slice());
     let _image = unit.detach().into_image();
-    Ok(match answer {
-        Ok(reply) => Ok(numbers(reply)),
-        Err(refusal) => Err(refusal),
-    })
+    Ok(answer.map(Told::from))
 }
 
 fn good(bytes: usize, commands: u64) -> Result<Told, Refusal> {
     Ok(Told {
-        key: GOOD,
-        code: 0,
+        sense: None,
         block: None,
         bytes,
         commands,
@@ -71,8 +64,7 @@ fn good(bytes: usize, commands: u64) -> Result<Told, Refusal> {
 
 fn stopped(key: u8, code: u8) -> Result<Told, Refusal> {
     Ok(Told {
-        key,
-        code,
+        sense: Some((key, code)),
         block: None,
         bytes: 0,
         commands: 0,
@@ -103,8 +95,7 @@ fn addresses(rt: HostRuntime) -> Result<(), Fail> {
 #[test]
 fn unreadable_block_is_named(rt: HostRuntime) -> Result<(), Fail> {
     let third = Told {
-        key: 3,
-        code: 0x11,
+        sense: Some((3, 0x11)),
         block: Some(3),
         bytes: 512,
         commands: 1,

@@ -1,0 +1,34 @@
+//! Why a session ends before its script does.
+
+use crate::wrong::Wrong;
+use thiserror::Error;
+
+/// Why an act does not fit the state of the bay.
+#[derive(Clone, Copy, PartialEq, Eq, Debug, Error)]
+pub enum Misfit {
+    #[error("there is a disk already")]
+    SecondDisk,
+    #[error("there is no disk")]
+    NoDisk,
+    #[error("a disk is attached already")]
+    Attached,
+    #[error("no disk is attached")]
+    NotAttached,
+}
+
+/// Either.
+#[derive(Clone, Copy, PartialEq, Eq, Debug, Error)]
+pub enum Reason {
+    #[error(transparent)]
+    Wrong(#[from] Wrong),
+    #[error(transparent)]
+    Misfit(#[from] Misfit),
+}
+
+/// A line that makes no sense, or whose act does not fit the state of the bay.
+#[derive(Clone, Copy, PartialEq, Eq, Debug, Error)]
+#[error("line {line}: {why}")]
+pub struct Stop {
+    pub line: u64,
+    pub why: Reason,
+}
