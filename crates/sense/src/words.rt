@@ -29,6 +29,7 @@ impl fmt::Display for Refusal {
             Refusal::CdbLength => "wrong CDB length",
             Refusal::DataOutShort => "data-out too short",
             Refusal::DataInShort => "data-in too short",
+            Refusal::SheetFull => "sheet full",
             Refusal::SenseBufferShort => "sense buffer too short",
         })
     }

@@ -6,6 +6,7 @@ use acts::{DiskKind, DiskPlan, Line};
 use ata::Drive;
 use caching::CachingDisk;
 use host::{caching_image, plain_image};
+use image_disk::ImageDisk;
 use plain::PlainDisk;
 use port::Port;
 use std::alloc::{AllocError, Global};
@@ -78,7 +79,7 @@ impl fmt::Display for Disk {
             Disk::Caching(disk) => ("caching", disk.blocks(), disk.errors(), disk.orders()),
         };
         let blocks = Number(blocks, "block");
-        let errors = Number(errors as u64, "error");
+        let errors = Number(u64::from(errors), "error");
         let orders = Number(orders, "ATA command");
         write!(f, "{kind} disk, {blocks}, {errors}, {orders} taken")
     }

@@ -6,6 +6,7 @@ ghost use Rattle.session.specs.Counting.{after_answer};
 use crate::shown::Number;
 use sense::Refusal;
 use std::fmt;
+use transfer::Fault;
 use unit::Reply;
 
 /// The acts begun, the commands by what they came to, and the ATA commands that the units sent.
@@ -19,7 +20,7 @@ pub struct Counts {
 }
 
 impl Counts {
-    pub fn count_answer(&mut self, answer: Result<Reply, Refusal>)
+    pub fn count_answer(&mut self, answer: Result<Reply<Fault>, Refusal>)
         ensures { self.new ≡ after_answer answer self.old }
     {
         match answer {

@@ -43,7 +43,7 @@ impl fmt::Display for Found {
             key,
             code,
             qualifier,
-        } = sense.values();
+        } = sense.into();
         let block = Block(block);
         write!(
             f,
@@ -54,7 +54,7 @@ impl fmt::Display for Found {
 
 /// The answer to a command.
 #[derive(Clone, Copy)]
-pub struct Shown(pub Result<Reply, Refusal>);
+pub struct Shown(pub Result<Reply<Fault>, Refusal>);
 
 impl fmt::Display for Shown {
     fn fmt<W: fmt::Write>(&self, f: &mut fmt::Formatter<W>) -> fmt::Result {
@@ -69,7 +69,7 @@ impl fmt::Display for Shown {
                 tally
             }
             Err(refusal) => {
-                let number = refusal.number();
+                let number = u8::from(refusal);
                 return write!(f, "refused {number} ({refusal})");
             }
         };

@@ -3,6 +3,7 @@
 use anyhow::anyhow;
 use sense::Refusal;
 use std::time::{Duration, Instant};
+use transfer::Fault;
 use unit::Reply;
 
 /// The bytes of 256 blocks.
@@ -46,7 +47,7 @@ pub fn copy(from: &[u8], to: &mut [u8]) -> anyhow::Result<()> {
 }
 
 /// An answer that has to be GOOD.
-pub fn good(answer: Result<Reply, Refusal>) -> anyhow::Result<()> {
+pub fn good(answer: Result<Reply<Fault>, Refusal>) -> anyhow::Result<()> {
     match answer {
         Ok(Reply::Good(_)) => Ok(()),
         _ => Err(anyhow!("the unit did not answer GOOD")),

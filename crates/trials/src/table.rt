@@ -1,6 +1,6 @@
 //! The result table, on a row or more of each kind.
 
-use sense::{Sense, result};
+use sense::{Sense, SenseValues, result};
 
 const ROWS: [(u8, u8, Sense); 14] = [
     (0x00, 0x00, Sense::NoAnswer),
@@ -28,7 +28,7 @@ fn rows(rt: HostRuntime) {
 
 #[test]
 fn device_fault_is_4_44_00(rt: HostRuntime) {
-    let values = result(0x61, 0x40).values();
+    let values = SenseValues::from(result(0x61, 0x40));
     assert_eq!(rt; values.key, 4);
     assert_eq!(rt; values.code, 0x44);
     assert_eq!(rt; values.qualifier, 0x00);

@@ -1,10 +1,10 @@
 //! A unit on a plain disk of 16 blocks, of which two cannot be read.
 
 use plain::PlainDisk;
-use sense::Refusal;
+use sense::{Refusal, SenseValues};
 use std::process::Abort;
 use std::test::Fail;
-use transfer::Tally;
+use transfer::{Fault, Tally};
 use unit::{Reply, Unit};
 
 /// What a call came to, in numbers that are easy to compare: the key and the code of its sense where it was not GOOD.
@@ -16,8 +16,8 @@ struct Told {
     commands: u64,
 }
 
-impl From<Reply> for Told {
-    fn from(reply: Reply) -> Told {
+impl From<Reply<Fault>> for Told {
+    fn from(reply: Reply<Fault>) -> Told {
         match reply {
             Reply::Good(Tally { bytes, commands }) => Told {
                 sense: None,
@@ -26,7 +26,7 @@ impl From<Reply> for Told {
                 commands,
             },
             Reply::Check(fault, Tally { bytes, commands }) => {
-                let values = fault.sense.values();
+                let values = SenseValues::from(fault.sense);
                 Told {
                     sense: Some((values.key, values.code)),
                     block: fault.block,
