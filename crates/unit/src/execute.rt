@@ -76,6 +76,7 @@ impl Facts {
         match self.start(extent) {
             None => Reply::stopped(Place::Cdb, Sense::PastEnd),
             Some(start) => {
+                // The library has no `From<u32>` for `usize`.
                 let length = 512 * extent.count as usize;
                 let (tally, verdict) = read(drive, self.width, fua, start, &mut into[..length]);
                 Reply::from_drive(tally, verdict)
@@ -90,6 +91,7 @@ impl Facts {
         match self.start(extent) {
             None => Reply::stopped(Place::Cdb, Sense::PastEnd),
             Some(start) => {
+                // The library has no `From<u32>` for `usize`.
                 let length = 512 * extent.count as usize;
                 let how = force(fua, self.through);
                 let (tally, verdict) = write(drive, self.width, how, start, &out[..length]);
