@@ -13,6 +13,7 @@ ghost use Rattle.image_disk.specs.Held.{state_in};
 use crate::kind::ImageDisk;
 use crate::order::admit;
 use crate::runs::{run_reads, run_verifies, run_writes};
+use crate::span::Span;
 use crate::steps::{cache_step, flush_step, idle_step};
 use ata::{Answer, Stop};
 use disk::{ABORTED, BLOCK, Order, answer_for, identify_words};
@@ -26,41 +27,35 @@ pub(crate) fn ignore<D: ImageDisk>(disk: &mut D) -> Answer
 }
 
 /// Reads blocks into the front of `into`.
-pub(crate) fn read<D: ImageDisk>(disk: &mut D, block: u64, count: u32, into: &mut [u8]) -> Answer
-    ensures { gives result (state_in D.MOST (D.held disk.new)) into.new ≡ obeys quiet (state_in D.MOST (D.held disk.old)) block (fetches into.old) (Reading count) }
+pub(crate) fn read<D: ImageDisk>(disk: &mut D, span: Span, into: &mut [u8]) -> Answer
+    ensures { gives result (state_in D.MOST (D.held disk.new)) into.new ≡ obeys quiet (state_in D.MOST (D.held disk.old)) span.block (fetches into.old) (Reading span.count) }
 {
-    let short = into.len() < BLOCK * count as usize;
-    match admit(disk, block, count, short) {
+    let short = into.len() < BLOCK * span.count as usize;
+    match admit(disk, span, short) {
         Err(answer) => answer,
-        Ok(()) => answer_for(run_reads(disk, block, count, into)),
+        Ok(()) => answer_for(run_reads(disk, span, into)),
     }
 }
 
 /// Writes blocks from the front of `from`, to a lit disk.
-pub(crate) fn write<D: ImageDisk>(
-    disk: &mut D,
-    through: bool,
-    block: u64,
-    count: u32,
-    from: &[u8],
-) -> Answer
+pub(crate) fn write<D: ImageDisk>(disk: &mut D, through: bool, span: Span, from: &[u8]) -> Answer
     requires { lit_of (D.held disk.old).power.supply ≡ true }
-    ensures { gives result (state_in D.MOST (D.held disk.new)) [] ≡ obeys quiet (state_in D.MOST (D.held disk.old)) block (sends from.now) (Writing through count) }
+    ensures { gives result (state_in D.MOST (D.held disk.new)) [] ≡ obeys quiet (state_in D.MOST (D.held disk.old)) span.block (sends from.now) (Writing through span.count) }
 {
-    let short = from.len() < BLOCK * count as usize;
-    match admit(disk, block, count, short) {
+    let short = from.len() < BLOCK * span.count as usize;
+    match admit(disk, span, short) {
         Err(answer) => answer,
-        Ok(()) => answer_for(run_writes(disk, through, block, count, from)),
+        Ok(()) => answer_for(run_writes(disk, through, span, from)),
     }
 }
 
 /// Looks whether blocks can be read.
-fn verify<D: ImageDisk>(disk: &mut D, block: u64, count: u32) -> Answer
-    ensures { (l : Load) → gives result (state_in D.MOST (D.held disk.new)) (room l) ≡ obeys quiet (state_in D.MOST (D.held disk.old)) block l (Verifying count) }
+fn verify<D: ImageDisk>(disk: &mut D, span: Span) -> Answer
+    ensures { (l : Load) → gives result (state_in D.MOST (D.held disk.new)) (room l) ≡ obeys quiet (state_in D.MOST (D.held disk.old)) span.block l (Verifying span.count) }
 {
-    match admit(disk, block, count, false) {
+    match admit(disk, span, false) {
         Err(answer) => answer,
-        Ok(()) => answer_for(run_verifies(disk, block, count)),
+        Ok(()) => answer_for(run_verifies(disk, span)),
     }
 }
 
@@ -119,7 +114,7 @@ pub(crate) fn without_data<D: ImageDisk>(disk: &mut D, block: u64, order: Order)
     ensures { (l : Load) → Bare l (meant order) → gives result (state_in D.MOST (D.held disk.new)) (room l) ≡ obeys quiet (state_in D.MOST (D.held disk.old)) block l (meant order) }
 {
     match order {
-        Order::Verify(count) => verify(disk, block, count),
+        Order::Verify(count) => verify(disk, Span { block, count }),
         Order::Flush => flush(disk),
         Order::Switch(on) => switch(disk, on),
         Order::Idle => idle(disk),

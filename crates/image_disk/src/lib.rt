@@ -7,6 +7,7 @@ mod kind;
 mod order;
 mod runs;
 mod serve;
+mod span;
 mod steps;
 
 pub use kind::ImageDisk;

@@ -7,6 +7,7 @@ ghost use Rattle.disk.specs.Orders.{meant, MovesSome, switches};
 ghost use Rattle.image_disk.specs.Held.{Admits};
 
 use crate::kind::ImageDisk;
+use crate::span::Span;
 use ata::{Answer, TaskFile};
 use disk::{ABORTED, Order, order_of};
 
@@ -19,21 +20,16 @@ pub(crate) fn order<D: ImageDisk>(disk: &D, task: TaskFile) -> Order
     order_of(disk.claims(), task)
 }
 
-/// Takes a command that moves `count` blocks, unless it has its answer already.
-pub(crate) fn admit<D: ImageDisk>(
-    disk: &mut D,
-    block: u64,
-    count: u32,
-    short: bool,
-) -> Result<(), Answer>
-    ensures { Admits D.MOST block count short (D.held disk.old) (D.held disk.new) result }
+/// Takes a command that moves blocks, unless it has its answer already.
+pub(crate) fn admit<D: ImageDisk>(disk: &mut D, span: Span, short: bool) -> Result<(), Answer>
+    ensures { Admits D.MOST span.block span.count short (D.held disk.old) (D.held disk.new) result }
 {
-    if count > D::MOST || short {
+    if span.count > D::MOST || short {
         return Err(ABORTED);
     }
     disk.count_order();
     let size = disk.claims().blocks;
-    if block > size || u64::from(count) > size - block {
+    if span.block > size || u64::from(span.count) > size - span.block {
         return Err(Answer {
             status: 0x41,
             error: 0x10,

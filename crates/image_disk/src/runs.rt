@@ -9,57 +9,53 @@ ghost use Rattle.disk.specs.Powers.{lit_of};
 ghost use Rattle.image_disk.specs.Held.{machine_in, Kept};
 
 use crate::kind::ImageDisk;
+use crate::span::Span;
 use crate::steps::{read_step, verify_step, write_step};
 use ata::Stop;
 use disk::BLOCK;
 
-/// Reads `count` blocks from `block` on into the front of `into`.
-pub(crate) fn run_reads<D: ImageDisk>(
-    disk: &mut D,
-    block: u64,
-    count: u32,
-    into: &mut [u8],
-) -> Result<(), Stop>
-    requires { (block + count ≤ (D.held disk.old).claims.blocks) × (512 * count ≤ length into.old) }
-    ensures ran { Filled (steps quiet (reads block count) (machine_in (D.held disk.old))) result (machine_in (D.held disk.new)) into.old into.new }
+/// Reads blocks into the front of `into`.
+// After a loop over `chunks_exact_mut` nothing is known of what the buffer holds, so each block's part is taken by its place.
+pub(crate) fn run_reads<D: ImageDisk>(disk: &mut D, span: Span, into: &mut [u8]) -> Result<(), Stop>
+    requires { (span.block + span.count ≤ (D.held disk.old).claims.blocks) × (512 * span.count ≤ length into.old) }
+    ensures ran { Filled (steps quiet (reads span.block span.count) (machine_in (D.held disk.old))) result (machine_in (D.held disk.new)) into.old into.new }
     ensures kept { Kept (D.held disk.old) (D.held disk.new) }
 {
-    for i in 0..count {
+    for i in 0..span.count {
         let at = BLOCK * i as usize;
-        read_step(disk, block + i as u64, &mut into[at..at + BLOCK])?;
+        read_step(disk, span.block + i as u64, &mut into[at..at + BLOCK])?;
     }
     Ok(())
 }
 
-/// Looks whether `count` blocks from `block` on can be read.
-pub(crate) fn run_verifies<D: ImageDisk>(disk: &mut D, block: u64, count: u32) -> Result<(), Stop>
-    requires { block + count ≤ (D.held disk.old).claims.blocks }
-    ensures ran { steps quiet (verifies block count) (machine_in (D.held disk.old)) ≡ ends result [] (machine_in (D.held disk.new)) }
+/// Looks whether blocks can be read.
+pub(crate) fn run_verifies<D: ImageDisk>(disk: &mut D, span: Span) -> Result<(), Stop>
+    requires { span.block + span.count ≤ (D.held disk.old).claims.blocks }
+    ensures ran { steps quiet (verifies span.block span.count) (machine_in (D.held disk.old)) ≡ ends result [] (machine_in (D.held disk.new)) }
     ensures kept { Kept (D.held disk.old) (D.held disk.new) }
 {
-    for i in 0..count {
-        verify_step(disk, block + i as u64)?;
+    for i in 0..span.count {
+        verify_step(disk, span.block + i as u64)?;
     }
     Ok(())
 }
 
-/// Writes `count` blocks of `from` from `block` on, on a lit disk.
+/// Writes blocks from the front of `from`, on a lit disk.
 pub(crate) fn run_writes<D: ImageDisk>(
     disk: &mut D,
     through: bool,
-    block: u64,
-    count: u32,
+    span: Span,
     from: &[u8],
 ) -> Result<(), Stop>
-    requires within { block + count ≤ (D.held disk.old).claims.blocks }
-    requires sized { 512 * count ≤ length from.now }
+    requires within { span.block + span.count ≤ (D.held disk.old).claims.blocks }
+    requires sized { 512 * span.count ≤ length from.now }
     requires lit { lit_of (D.held disk.old).power.supply ≡ true }
-    ensures ran { steps quiet (writes through block (blocksOf count from.now)) (machine_in (D.held disk.old)) ≡ ends result [] (machine_in (D.held disk.new)) }
+    ensures ran { steps quiet (writes through span.block (blocksOf span.count from.now)) (machine_in (D.held disk.old)) ≡ ends result [] (machine_in (D.held disk.new)) }
     ensures kept { Kept (D.held disk.old) (D.held disk.new) }
 {
-    for i in 0..count {
+    for i in 0..span.count {
         let at = BLOCK * i as usize;
-        write_step(disk, through, block + i as u64, &from[at..at + BLOCK])?;
+        write_step(disk, through, span.block + i as u64, &from[at..at + BLOCK])?;
     }
     Ok(())
 }

@@ -1,6 +1,6 @@
 //! A disk as a drive: its commands, by what goes with each.
 
-ghost use Rattle.std.specs.Prelude.{[]};
+ghost use Rattle.std.specs.Prelude.{◌≡◌, []};
 ghost use Rattle.ata.specs.Commands.{nothing, sends, fetches, fetches_words};
 ghost use Rattle.ata.specs.Exchange.{exchange, Agrees};
 ghost use Rattle.image_disk.specs.Held.{state_in};
@@ -8,8 +8,19 @@ ghost use Rattle.image_disk.specs.Held.{state_in};
 use crate::commands::{identify, ignore, read, without_data, write};
 use crate::kind::ImageDisk;
 use crate::order::order;
+use crate::span::Span;
 use ata::{Answer, TaskFile};
 use disk::Order;
+
+// The blocks that a task file names, with as many as its count stands for.
+fn span(task: TaskFile, count: u32) -> Span
+    ensures { result ≡ record { block = task.block; count = count } }
+{
+    Span {
+        block: task.block,
+        count,
+    }
+}
 
 /// A command with no data.
 pub fn no_data<D: ImageDisk>(disk: &mut D, task: TaskFile) -> Answer
@@ -30,7 +41,7 @@ pub fn data_out<D: ImageDisk>(disk: &mut D, task: TaskFile, from: &[u8]) -> Answ
         return ignore(disk);
     }
     match order(disk, task) {
-        Order::Write { through, count } => write(disk, through, task.block, count, from),
+        Order::Write { through, count } => write(disk, through, span(task, count), from),
         order => without_data(disk, task.block, order),
     }
 }
@@ -43,7 +54,7 @@ pub fn data_in<D: ImageDisk>(disk: &mut D, task: TaskFile, into: &mut [u8]) -> A
         return ignore(disk);
     }
     match order(disk, task) {
-        Order::Read(count) => read(disk, task.block, count, into),
+        Order::Read(count) => read(disk, span(task, count), into),
         order => without_data(disk, task.block, order),
     }
 }

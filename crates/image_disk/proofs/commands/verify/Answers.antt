@@ -13,7 +13,7 @@ returns-in-Err g c =
     let most = g.D.ImageDisk.MOST in
     let h = g.D.ImageDisk.held c.args.disk.now in
     λ l.
-    c.in-Err.ensures (room l) (ran (state_in most h) (room l) (steps quiet (verifies c.args.block c.args.count) (machine_in h)))
+    c.in-Err.ensures (room l) (ran (state_in most h) (room l) (steps quiet (verifies c.args.span.block c.args.span.count) (machine_in h)))
 
 pub returns-in-Ok : goal.returns-in-Ok
 returns-in-Ok g c =
@@ -22,9 +22,9 @@ returns-in-Ok g c =
     let j = g.D.ImageDisk.held c.admit.new.disk in
     let k = g.D.ImageDisk.held c.run_verifies.new.disk in
     let a = c.in-Ok.ensures in
-    let xs = verifies c.args.block c.args.count in
+    let xs = verifies c.args.span.block c.args.span.count in
     λ l.
     ap (λ (x : Answer). gives x (state_in most k) (room l)) c.answer_for.ensures
     ∙ ran_bare most h j k xs c.run_verifies.result (room l) a.counted c.run_verifies.ensures.kept c.run_verifies.ensures.ran
-    ∙ sym (moves_run (state_in most h) c.args.block c.args.count false (room l) (ran (state_in most h) (room l) (steps quiet xs (machine_in h))) a.few refl
+    ∙ sym (moves_run (state_in most h) c.args.span.block c.args.span.count false (room l) (ran (state_in most h) (room l) (steps quiet xs (machine_in h))) a.few refl
     (omega (arith, a.within, (g.met.D.ImageDisk.sound c.args.disk.now).sized)))

@@ -12,8 +12,8 @@ use Rattle.image_disk.specs.Held.{machine_in, put, Untouched}
 use Rattle.image_disk.proofs.Keeps.{kept_all, kept_on, put_none, untouched_is}
 use Rattle.image_disk.proofs.runs.run_reads.Goals as goal
 
-pub overflow_add-block : goal.overflow_add-block
-overflow_add-block g c = let s = g.met.D.ImageDisk.sound c.args.disk.now in omega (arith, s.small)
+pub overflow_add-span : goal.overflow_add-span
+overflow_add-span g c = let s = g.met.D.ImageDisk.sound c.args.disk.now in omega (arith, s.small)
 
 pub read_step-requires : goal.read_step-requires
 read_step-requires g c = (omega (arith, ap (λ (x : Claims). x.blocks) c.loop-i.invariant.2.claims), omega arith)
@@ -21,12 +21,12 @@ read_step-requires g c = (omega (arith, ap (λ (x : Claims). x.blocks) c.loop-i.
 pub loop-i-init : goal.loop-i-init
 loop-i-init g c =
     let h = g.D.ImageDisk.held c.args.disk.now in
-    (reached_none (reads c.args.block c.args.count) (machine_in h), refl, kept_all h)
+    (reached_none (reads c.args.span.block c.args.span.count) (machine_in h), refl, kept_all h)
 
 pub loop-i-preserved : goal.loop-i-preserved
 loop-i-preserved g c =
-    let b = c.args.block in
-    let n = c.args.count in
+    let b = c.args.span.block in
+    let n = c.args.span.count in
     let i = c.loop-i.i in
     let h = g.D.ImageDisk.held c.args.disk.now in
     let j = g.D.ImageDisk.held c.loop-i.disk in
@@ -45,8 +45,8 @@ loop-i-preserved g c =
 
 pub returns-in_err-read_step : goal.returns-in_err-read_step
 returns-in_err-read_step g c =
-    let b = c.args.block in
-    let n = c.args.count in
+    let b = c.args.span.block in
+    let n = c.args.span.count in
     let i = c.loop-i.i in
     let h = g.D.ImageDisk.held c.args.disk.now in
     let j = g.D.ImageDisk.held c.loop-i.disk in
@@ -72,8 +72,8 @@ returns-in_err-read_step g c =
 
 pub returns : goal.returns
 returns g c =
-    let b = c.args.block in
-    let n = c.args.count in
+    let b = c.args.span.block in
+    let n = c.args.span.count in
     let i = c.loop-i.i in
     let h = g.D.ImageDisk.held c.args.disk.now in
     let j = g.D.ImageDisk.held c.loop-i.disk in

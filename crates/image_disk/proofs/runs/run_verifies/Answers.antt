@@ -8,8 +8,8 @@ use Rattle.image_disk.specs.Held.{machine_in}
 use Rattle.image_disk.proofs.Keeps.{kept_all, kept_on}
 use Rattle.image_disk.proofs.runs.run_verifies.Goals as goal
 
-pub overflow_add-block : goal.overflow_add-block
-overflow_add-block g c = let s = g.met.D.ImageDisk.sound c.args.disk.now in omega (arith, s.small)
+pub overflow_add-span : goal.overflow_add-span
+overflow_add-span g c = let s = g.met.D.ImageDisk.sound c.args.disk.now in omega (arith, s.small)
 
 pub verify_step-requires : goal.verify_step-requires
 verify_step-requires g c = omega (arith, ap (λ (x : Claims). x.blocks) c.loop-i.invariant.1.claims)
@@ -17,12 +17,12 @@ verify_step-requires g c = omega (arith, ap (λ (x : Claims). x.blocks) c.loop-i
 pub loop-i-init : goal.loop-i-init
 loop-i-init g c =
     let h = g.D.ImageDisk.held c.args.disk.now in
-    (reached_none (verifies c.args.block c.args.count) (machine_in h), kept_all h)
+    (reached_none (verifies c.args.span.block c.args.span.count) (machine_in h), kept_all h)
 
 pub loop-i-preserved : goal.loop-i-preserved
 loop-i-preserved g c =
-    let b = c.args.block in
-    let n = c.args.count in
+    let b = c.args.span.block in
+    let n = c.args.span.count in
     let i = c.loop-i.i in
     let h = g.D.ImageDisk.held c.args.disk.now in
     let j = g.D.ImageDisk.held c.loop-i.disk in
@@ -34,8 +34,8 @@ loop-i-preserved g c =
 
 pub returns-in_err-verify_step : goal.returns-in_err-verify_step
 returns-in_err-verify_step g c =
-    let b = c.args.block in
-    let n = c.args.count in
+    let b = c.args.span.block in
+    let n = c.args.span.count in
     let i = c.loop-i.i in
     let h = g.D.ImageDisk.held c.args.disk.now in
     let j = g.D.ImageDisk.held c.loop-i.disk in
@@ -52,8 +52,8 @@ returns-in_err-verify_step g c =
 
 pub returns : goal.returns
 returns g c =
-    let b = c.args.block in
-    let n = c.args.count in
+    let b = c.args.span.block in
+    let n = c.args.span.count in
     record {
       ran = reached_all (verifies b n) (machine_in (g.D.ImageDisk.held c.args.disk.now)) c.loop-i.i [] (machine_in (g.D.ImageDisk.held c.loop-i.disk)) c.loop-i.invariant.0 (omega (arith, length_verifies b n));
       kept = c.loop-i.invariant.1;

@@ -9,8 +9,8 @@ use Rattle.image_disk.specs.Held.{machine_in}
 use Rattle.image_disk.proofs.Keeps.{kept_all, kept_on}
 use Rattle.image_disk.proofs.runs.run_writes.Goals as goal
 
-pub overflow_add-block : goal.overflow_add-block
-overflow_add-block g c = let s = g.met.D.ImageDisk.sound c.args.disk.now in omega (arith, s.small)
+pub overflow_add-span : goal.overflow_add-span
+overflow_add-span g c = let s = g.met.D.ImageDisk.sound c.args.disk.now in omega (arith, s.small)
 
 pub write_step-requires-clause-within : goal.write_step-requires-clause-within
 write_step-requires-clause-within g c = omega (arith, ap (λ (x : Claims). x.blocks) c.loop-i.invariant.1.claims)
@@ -21,13 +21,13 @@ write_step-requires-clause-lit g c = c.loop-i.invariant.2
 pub loop-i-init : goal.loop-i-init
 loop-i-init g c =
     let h = g.D.ImageDisk.held c.args.disk.now in
-    (reached_none (writes c.args.through c.args.block (blocks c.args.count c.args.from.now)) (machine_in h), kept_all h, c.requires.lit)
+    (reached_none (writes c.args.through c.args.span.block (blocks c.args.span.count c.args.from.now)) (machine_in h), kept_all h, c.requires.lit)
 
 pub loop-i-preserved : goal.loop-i-preserved
 loop-i-preserved g c =
     let t = c.args.through in
-    let b = c.args.block in
-    let n = c.args.count in
+    let b = c.args.span.block in
+    let n = c.args.span.count in
     let i = c.loop-i.i in
     let xs = c.args.from.now in
     let h = g.D.ImageDisk.held c.args.disk.now in
@@ -44,8 +44,8 @@ loop-i-preserved g c =
 pub returns-in_err-write_step : goal.returns-in_err-write_step
 returns-in_err-write_step g c =
     let t = c.args.through in
-    let b = c.args.block in
-    let n = c.args.count in
+    let b = c.args.span.block in
+    let n = c.args.span.count in
     let i = c.loop-i.i in
     let xs = c.args.from.now in
     let h = g.D.ImageDisk.held c.args.disk.now in
@@ -66,8 +66,8 @@ returns-in_err-write_step g c =
 pub returns : goal.returns
 returns g c =
     let t = c.args.through in
-    let b = c.args.block in
-    let n = c.args.count in
+    let b = c.args.span.block in
+    let n = c.args.span.count in
     let xs = c.args.from.now in
     record {
       ran = reached_all (writes t b (blocks n xs)) (machine_in (g.D.ImageDisk.held c.args.disk.now)) c.loop-i.i [] (machine_in (g.D.ImageDisk.held c.loop-i.disk)) c.loop-i.invariant.0 (omega (arith, length_writes t b n xs));

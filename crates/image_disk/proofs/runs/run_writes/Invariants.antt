@@ -7,6 +7,6 @@ use Rattle.image_disk.proofs.runs.run_writes.Given as goal
 
 abbrev pub invariant-loop-i : goal.invariant-loop-i
 invariant-loop-i g l =
-    Reached (writes l.through l.block (blocks l.count l.from)) (machine_in (g.D.ImageDisk.held l.initial.disk)) l.i [] (machine_in (g.D.ImageDisk.held l.disk))
+    Reached (writes l.through l.span.block (blocks l.span.count l.from)) (machine_in (g.D.ImageDisk.held l.initial.disk)) l.i [] (machine_in (g.D.ImageDisk.held l.disk))
     × Kept (g.D.ImageDisk.held l.initial.disk) (g.D.ImageDisk.held l.disk)
     × (lit_of (g.D.ImageDisk.held l.disk).power.supply ≡ true)

@@ -1,9 +1,10 @@
-use Rattle.std.proofs.Common.{sym, ◌∙◌}
-use Rattle.ata.specs.Commands.{gives, fetches, read}
+use Rattle.std.proofs.Common.{sym, ap, ◌∙◌}
+use Rattle.ata.specs.Commands.{gives, fetches, read, obeys}
 use Rattle.disk.specs.Orders.{meant}
 use Rattle.disk.specs.Quiet.{quiet}
 use Rattle.disk.proofs.Loads.{bare_fetches}
 use Rattle.disk.proofs.Performs.{perform_dark, perform_lit}
+use Rattle.image_disk.specs.declared.span.Span.{Span}
 use Rattle.image_disk.specs.Held.{state_in}
 use Rattle.image_disk.proofs.serve.data_in.Goals as goal
 
@@ -18,7 +19,8 @@ returns-in-Read g c =
     let s = state_in most (g.D.ImageDisk.held c.args.disk.now) in (
       quiet,
       perform_lit quiet s c.args.task (fetches c.args.into.now) (read c.in-Read.count)
-          (gives c.read.result (state_in most (g.D.ImageDisk.held c.read.new.disk)) c.read.new.into) (sym c.has_power.ensures ∙ c.if-not-has_power.false) c.in-Read.ensures.is c.read.ensures,
+          (gives c.read.result (state_in most (g.D.ImageDisk.held c.read.new.disk)) c.read.new.into) (sym c.has_power.ensures ∙ c.if-not-has_power.false) c.in-Read.ensures.is
+          (c.read.ensures ∙ ap (λ (x : Span). obeys quiet s x.block (fetches c.args.into.now) (read x.count)) c.span.ensures),
     )
 
 pub returns-in_default : goal.returns-in_default

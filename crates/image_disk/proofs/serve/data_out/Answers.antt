@@ -1,9 +1,10 @@
-use Rattle.std.proofs.Common.{[], sym, ◌∙◌}
-use Rattle.ata.specs.Commands.{gives, sends, write}
+use Rattle.std.proofs.Common.{[], sym, ap, ◌∙◌}
+use Rattle.ata.specs.Commands.{gives, sends, write, obeys}
 use Rattle.disk.specs.Orders.{meant}
 use Rattle.disk.specs.Quiet.{quiet}
 use Rattle.disk.proofs.Loads.{bare_sends}
 use Rattle.disk.proofs.Performs.{perform_dark, perform_lit}
+use Rattle.image_disk.specs.declared.span.Span.{Span}
 use Rattle.image_disk.specs.Held.{state_in}
 use Rattle.image_disk.proofs.serve.data_out.Goals as goal
 
@@ -18,7 +19,8 @@ returns-in-Write g c =
     let s = state_in most (g.D.ImageDisk.held c.args.disk.now) in (
       quiet,
       perform_lit quiet s c.args.task (sends c.args.from.now) (write c.in-Write.through c.in-Write.count)
-          (gives c.write.result (state_in most (g.D.ImageDisk.held c.write.new.disk)) []) (sym c.has_power.ensures ∙ c.if-not-has_power.false) c.in-Write.ensures.is c.write.ensures,
+          (gives c.write.result (state_in most (g.D.ImageDisk.held c.write.new.disk)) []) (sym c.has_power.ensures ∙ c.if-not-has_power.false) c.in-Write.ensures.is
+          (c.write.ensures ∙ ap (λ (x : Span). obeys quiet s x.block (sends c.args.from.now) (write c.in-Write.through x.count)) c.span.ensures),
     )
 
 pub returns-in_default : goal.returns-in_default

@@ -1,0 +1,8 @@
+//! The blocks that a command moves.
+
+/// The first block, and how many there are. Whether they lie on a disk is known of the disk alone.
+#[derive(Clone, Copy)]
+pub(crate) struct Span {
+    pub(crate) block: u64,
+    pub(crate) count: u32,
+}
