@@ -11,6 +11,7 @@ use disk::Power;
 #[derive(Drop)]
 pub struct CachingDisk {
     pub(crate) image: Vec<u8>,
+    // Not the image's length: its whole blocks, as far as 28 bits go.
     pub(crate) blocks: u64,
     pub(crate) through: bool,
     pub(crate) caching: bool,

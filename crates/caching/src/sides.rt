@@ -22,6 +22,7 @@ pub(crate) fn copy_cells(image: &mut [u8], blocks: u64, from: usize, to: usize)
     ensures copied { contents 1026 to blocks image.new ≡ contents 1026 from blocks image.old }
     ensures kept { contents 1026 from blocks image.new ≡ contents 1026 from blocks image.old }
 {
+    // After a loop over `chunks_exact_mut` nothing would be known of the image.
     for i in 0..blocks {
         let at = PAIR * i as usize;
         copy_cell(image, at + from, at + to);

@@ -62,6 +62,7 @@ fn capacity_request(cdb: &Ten) -> Request
     }
 }
 
+// READ and WRITE differ in the direction and the case alone: a function of both would take either by a closure.
 fn read_request(transfer: Transfer) -> Request
     ensures { result ≡ read_request transfer }
 {

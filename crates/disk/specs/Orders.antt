@@ -1,5 +1,6 @@
 -- What a disk takes a task file for.
 use Rattle.std.specs.Prelude.{◌*◌, ◌<◌, Bool, true, false, length}
+use Rattle.std.specs.Int.NonZero.{non_zero_u32_get}
 use Rattle.ata.specs.Commands.{Load, incoming, incoming_words, outgoing}
 use Rattle.ata.specs.Commands.{Order as Meant, identify, read, verify, write, flush, switch, idle, unknown}
 use Rattle.disk.specs.declared.order.Order.{Order}
@@ -7,24 +8,13 @@ use Rattle.disk.specs.declared.order.Order.TheVariants.{Identify, Read, Verify, 
 
 abbrev pub meant : Order → Meant
 meant Identify = identify
-meant (Read n) = read n
-meant (Verify n) = verify n
-meant (Write t n) = write t n
+meant (Read n) = read (non_zero_u32_get n)
+meant (Verify n) = verify (non_zero_u32_get n)
+meant (Write t n) = write t (non_zero_u32_get n)
 meant Flush = flush
 meant (Switch on) = switch on
 meant Idle = idle
 meant Unknown = unknown
-
--- An order that moves blocks moves some.
-abbrev pub MovesSome : Order → Type 0
-MovesSome Identify = Unit {0}
-MovesSome (Read n) = 0 < n
-MovesSome (Verify n) = 0 < n
-MovesSome (Write t n) = 0 < n
-MovesSome Flush = Unit {0}
-MovesSome (Switch on) = Unit {0}
-MovesSome Idle = Unit {0}
-MovesSome Unknown = Unit {0}
 
 -- An order with no data of its kind beside it, or too little.
 abbrev pub Bare : Load → Meant → Type 0

@@ -32,6 +32,7 @@ pub fn content_at(image: &[u8], at: usize) -> Option<&[u8]>
 }
 
 /// Makes the cell at `at` readable, with `data` of 512 bytes, and says whether it could be done.
+// A disk has shown that it can, and would have to unwrap a Result.
 pub fn write_cell(image: &mut [u8], at: usize, data: &[u8]) -> bool
     ensures was { result ≡ (inside image.old at && length «data».now == 512) }
     ensures content { image.new ≡ (if result then with_cell image.old at «data».now else image.old) }

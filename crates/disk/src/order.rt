@@ -1,47 +1,47 @@
 //! What a disk takes a task file for, by what it claims.
 
-ghost use Rattle.std.specs.Prelude.{◌≡◌, ◌<◌, if◌then◌else◌};
+ghost use Rattle.std.specs.Prelude.{◌≡◌, if◌then◌else◌};
+ghost use Rattle.std.specs.Int.NonZero.{non_zero_u32_get};
+ghost use Rattle.ata.specs.Words.{count_limit};
 ghost use Rattle.ata.specs.Commands.{taken, named, unknown, switched_by};
 ghost use Rattle.disk.specs.Claimed.{words_for};
-ghost use Rattle.disk.specs.Orders.{meant, MovesSome};
+ghost use Rattle.disk.specs.Orders.{meant};
 
 use crate::words::Claims;
 use ata::{AtaCommand, Feature, TaskFile};
+use std::num::NonZeroU32;
 
-/// A command by what it does; the numbers are blocks.
+/// A command by what it does. One that moves blocks moves some.
 #[derive(Clone, Copy)]
 pub enum Order {
     Identify,
-    Read(u32),
-    Verify(u32),
-    Write { through: bool, count: u32 },
+    Read(NonZeroU32),
+    Verify(NonZeroU32),
+    Write { through: bool, count: NonZeroU32 },
     Flush,
     Switch(bool),
     Idle,
     Unknown,
 }
 
-/// The blocks that a count names: 0 stands for the most that its field could name.
-pub fn blocks_named(count: u16, limit: u32) -> u32
-    ensures is { result ≡ named limit count }
-    ensures some { 0 < limit → 0 < result }
+/// The blocks that a count names: 0 stands for the most that the count of a command of this width could name.
+pub fn blocks_named(count: u16, wide: bool) -> NonZeroU32
+    ensures { non_zero_u32_get result ≡ named (count_limit wide) count }
 {
-    if count == 0 { limit } else { u32::from(count) }
+    let most = if wide { 65536 } else { 256 };
+    NonZeroU32::new(if count == 0 { most } else { u32::from(count) }).unwrap()
 }
 
 /// The order if the disk claims it.
 fn claimed(claim: bool, order: Order) -> Order
-    requires { MovesSome order }
-    ensures is { meant result ≡ (if claim then meant order else unknown) }
-    ensures some { MovesSome result }
+    ensures { meant result ≡ (if claim then meant order else unknown) }
 {
     if claim { order } else { Order::Unknown }
 }
 
 /// What SET FEATURES asks of a cache.
 fn switch_by(feature: Feature) -> Order
-    ensures is { meant result ≡ switched_by feature }
-    ensures some { MovesSome result }
+    ensures { meant result ≡ switched_by feature }
 {
     match feature {
         Feature::EnableWriteCache => Order::Switch(true),
@@ -52,11 +52,10 @@ fn switch_by(feature: Feature) -> Order
 
 /// What a disk with these claims takes a task file for.
 pub fn order_of(claims: Claims, task: TaskFile) -> Order
-    ensures is { meant result ≡ taken (words_for claims) task.command task.feature task.count }
-    ensures some { MovesSome result }
+    ensures { meant result ≡ taken (words_for claims) task.command task.feature task.count }
 {
-    let short = blocks_named(task.count, 256);
-    let long = blocks_named(task.count, 65536);
+    let short = blocks_named(task.count, false);
+    let long = blocks_named(task.count, true);
     let wide = claims.wide;
     match task.command {
         AtaCommand::IdentifyDevice => Order::Identify,

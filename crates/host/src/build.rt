@@ -5,6 +5,7 @@ ghost use Rattle.cdb.specs.declared.command.Command.TheVariants.{TestUnitReady, 
 ghost use Rattle.cdb.specs.Requests.{received, asks_for};
 ghost use Rattle.host.specs.Built.{six_bytes, ten_bytes, extent_of};
 
+// The fields are of the widths that the CDB has for them, and so not an `Extent`.
 /// READ(10), WRITE(10): the code, FUA in bit 3 of byte 1, the address in bytes 2 to 5, the length in bytes 7 and 8.
 fn ten_bytes(code: u8, block: u32, count: u16, fua: bool) -> [u8; 10]
     ensures { result ≡ ten_bytes code block count fua }

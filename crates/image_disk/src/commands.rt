@@ -59,6 +59,8 @@ fn verify<D: ImageDisk>(disk: &mut D, span: Span) -> Answer
     }
 }
 
+// A flush, a switch and an idle command differ in their step alone. One function over a step that is passed to it would have
+// to say of the step what these three contracts say.
 /// Puts what waits in a cache on the medium.
 fn flush<D: ImageDisk>(disk: &mut D) -> Answer
     ensures { (b : ℕ) (l : Load) → gives result (state_in D.MOST (D.held disk.new)) (room l) ≡ obeys quiet (state_in D.MOST (D.held disk.old)) b l Flushing }
@@ -114,7 +116,13 @@ pub(crate) fn without_data<D: ImageDisk>(disk: &mut D, block: u64, order: Order)
     ensures { (l : Load) → Bare l (meant order) → gives result (state_in D.MOST (D.held disk.new)) (room l) ≡ obeys quiet (state_in D.MOST (D.held disk.old)) block l (meant order) }
 {
     match order {
-        Order::Verify(count) => verify(disk, Span { block, count }),
+        Order::Verify(count) => verify(
+            disk,
+            Span {
+                block,
+                count: count.get(),
+            },
+        ),
         Order::Flush => flush(disk),
         Order::Switch(on) => switch(disk, on),
         Order::Idle => idle(disk),

@@ -3,7 +3,7 @@
 ghost use Rattle.std.specs.Prelude.{◌≡◌, true};
 ghost use Rattle.ata.specs.Commands.{taken};
 ghost use Rattle.disk.specs.Claimed.{words_for};
-ghost use Rattle.disk.specs.Orders.{meant, MovesSome, switches};
+ghost use Rattle.disk.specs.Orders.{meant, switches};
 ghost use Rattle.image_disk.specs.Held.{Admits};
 
 use crate::kind::ImageDisk;
@@ -14,7 +14,6 @@ use disk::{ABORTED, Order, order_of};
 /// What the disk takes a task file for.
 pub(crate) fn order<D: ImageDisk>(disk: &D, task: TaskFile) -> Order
     ensures is { meant result ≡ taken (words_for (D.held disk.now).claims) task.command task.feature task.count }
-    ensures some { MovesSome result }
     ensures cached { switches (meant result) ≡ true → (D.held disk.now).claims.cache ≡ true }
 {
     order_of(disk.claims(), task)

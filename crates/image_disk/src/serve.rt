@@ -1,6 +1,7 @@
 //! A disk as a drive: its commands, by what goes with each.
 
 ghost use Rattle.std.specs.Prelude.{◌≡◌, []};
+ghost use Rattle.std.specs.Int.NonZero.{non_zero_u32_get};
 ghost use Rattle.ata.specs.Commands.{nothing, sends, fetches, fetches_words};
 ghost use Rattle.ata.specs.Exchange.{exchange, Agrees};
 ghost use Rattle.image_disk.specs.Held.{state_in};
@@ -11,14 +12,15 @@ use crate::order::order;
 use crate::span::Span;
 use ata::{Answer, TaskFile};
 use disk::Order;
+use std::num::NonZeroU32;
 
 // The blocks that a task file names, with as many as its count stands for.
-fn span(task: TaskFile, count: u32) -> Span
-    ensures { result ≡ record { block = task.block; count = count } }
+fn span(task: TaskFile, count: NonZeroU32) -> Span
+    ensures { result ≡ record { block = task.block; count = non_zero_u32_get count } }
 {
     Span {
         block: task.block,
-        count,
+        count: count.get(),
     }
 }
 

@@ -1,4 +1,6 @@
 //! One step of a disk, which takes one step's power.
+//!
+//! What a step keeps stands in the contract of each, since it relates the disk before it and after.
 
 ghost use Rattle.std.specs.Prelude.{◌≡◌, ◌<◌, true, [], length, Ok, Err};
 ghost use Rattle.ata.specs.Machine.{step, ends, read_step, verify_step, write_step, flush_step, cache_step, idle_step};

@@ -8,6 +8,7 @@ use disk::Power;
 #[derive(Drop)]
 pub struct PlainDisk {
     pub(crate) image: Vec<u8>,
+    // Not the image's length: its whole blocks, as far as 28 bits go.
     pub(crate) blocks: u64,
     pub(crate) power: Power,
     ghost whole: { blocks ≡ min (vec_len image / 513) 268435455 },

@@ -17,6 +17,7 @@ fn hex_digit(c: u8) -> Option<u8>
 }
 
 /// A byte of two hexadecimal digits.
+// `from_str_radix` would take a sign for one of them.
 pub(crate) fn byte(word: &str) -> Result<u8, Wrong>
     ensures { result ≡ byte_of word.now }
 {

@@ -12,4 +12,4 @@ returns-clause-cached g c =
     let h = g.D.ImageDisk.held c.args.disk.now in
     λ e.
     switching_claims h.claims t.command t.feature t.count
-    (sym (ap switches (c.order_of.ensures.is ∙ ap (λ (x : Claims). taken (words_for x) t.command t.feature t.count) c.claims.ensures)) ∙ e)
+    (sym (ap switches (c.order_of.ensures ∙ ap (λ (x : Claims). taken (words_for x) t.command t.feature t.count) c.claims.ensures)) ∙ e)

@@ -1,4 +1,5 @@
 use Rattle.std.proofs.Common.{sym, ap, ◌∙◌}
+use Rattle.std.specs.Int.NonZero.{non_zero_u32_get}
 use Rattle.ata.specs.Commands.{gives, fetches, read, obeys}
 use Rattle.disk.specs.Orders.{meant}
 use Rattle.disk.specs.Quiet.{quiet}
@@ -18,7 +19,7 @@ returns-in-Read g c =
     let most = g.D.ImageDisk.MOST in
     let s = state_in most (g.D.ImageDisk.held c.args.disk.now) in (
       quiet,
-      perform_lit quiet s c.args.task (fetches c.args.into.now) (read c.in-Read.count)
+      perform_lit quiet s c.args.task (fetches c.args.into.now) (read (non_zero_u32_get c.in-Read.count))
           (gives c.read.result (state_in most (g.D.ImageDisk.held c.read.new.disk)) c.read.new.into) (sym c.has_power.ensures ∙ c.if-not-has_power.false) c.in-Read.ensures.is
           (c.read.ensures ∙ ap (λ (x : Span). obeys quiet s x.block (fetches c.args.into.now) (read x.count)) c.span.ensures),
     )
@@ -30,5 +31,5 @@ returns-in_default g c =
       quiet,
       perform_lit quiet s c.args.task (fetches c.args.into.now) (meant c.order.result)
           (gives c.without_data.result (state_in most (g.D.ImageDisk.held c.without_data.new.disk)) c.args.into.now) (sym c.has_power.ensures ∙ c.if-not-has_power.false) c.order.ensures.is
-          (c.without_data.ensures (fetches c.args.into.now) (bare_fetches c.args.into.now c.order.result c.order.ensures.some c.in_default.not-Read)),
+          (c.without_data.ensures (fetches c.args.into.now) (bare_fetches c.args.into.now c.order.result c.in_default.not-Read)),
     )

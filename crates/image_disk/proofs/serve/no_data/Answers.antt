@@ -19,5 +19,5 @@ returns g c =
       quiet,
       perform_lit quiet s c.args.task nothing (meant c.order-order.result)
           (gives c.without_data.result (state_in most (g.D.ImageDisk.held c.without_data.new.disk)) []) (sym c.has_power.ensures ∙ c.if-not-has_power.false) c.order-order.ensures.is
-          (c.without_data.ensures nothing (bare_nothing c.order-order.result c.order-order.ensures.some)),
+          (c.without_data.ensures nothing (bare_nothing c.order-order.result)),
     )

@@ -28,5 +28,5 @@ returns-in_default g c =
       quiet,
       perform_lit quiet s c.args.task (fetches_words c.args.into.now) (meant c.order.result)
           (gives c.without_data.result (state_in most (g.D.ImageDisk.held c.without_data.new.disk)) c.args.into.now) (sym c.has_power.ensures ∙ c.if-not-has_power.false) c.order.ensures.is
-          (c.without_data.ensures (fetches_words c.args.into.now) (bare_words c.args.into.now c.order.result c.order.ensures.some c.in_default.not-Identify)),
+          (c.without_data.ensures (fetches_words c.args.into.now) (bare_words c.args.into.now c.order.result c.in_default.not-Identify)),
     )
