@@ -1,4 +1,3 @@
 mod Taking
 mod Keeps
-mod Answered
 pub mod Forms

@@ -1,27 +1,15 @@
-use Rattle.std.proofs.Common.{◌≡◌, ℕ, ◌+◌, ◌-◌, ◌*◌, ◌≤◌, List, ◌++◌, length, take, drop, sym, refl, ap, ◌∙◌, subst, arith, rules, Ok}
+use Rattle.std.proofs.Common.{◌≡◌, ℕ, ◌+◌, ◌-◌, ◌*◌, ◌≤◌, List, ◌++◌, length, take, drop, sym, ap, ◌∙◌, subst, arith, rules, Ok}
 use borrow.Rule.Slice.PartMut.{put_mid, put_same}
 use Rattle.std.proofs.lemmas.Slice.{take-put_mid}
 use Rattle.ata.specs.Machine.{End, read_step, steps, ends}
 use Rattle.ata.specs.Commands.{reads}
-use Rattle.disk.specs.declared.words.Claims.{Claims}
 use Rattle.disk.specs.Quiet.{quiet, Reached}
 use Rattle.disk.proofs.Buffers.{over_front, rest_kept, filled}
-use Rattle.disk.proofs.Runs.{reached_none, reached_more, reached_end, reached_all}
+use Rattle.disk.proofs.Runs.{reached_more, reached_end, reached_all}
 use Rattle.disk.proofs.Transfers.{length_reads, get_or_reads}
 use Rattle.image_disk.specs.Held.{machine_in, put, Untouched}
-use Rattle.image_disk.proofs.Keeps.{kept_all, kept_on, put_none, untouched_is}
+use Rattle.image_disk.proofs.Keeps.{kept_on, put_none, untouched_is}
 use Rattle.image_disk.proofs.runs.run_reads.Goals as goal
-
-pub overflow_add-span : goal.overflow_add-span
-overflow_add-span g c = let s = g.met.D.ImageDisk.sound c.args.disk.now in omega (arith, s.small)
-
-pub read_step-requires : goal.read_step-requires
-read_step-requires g c = (omega (arith, ap (λ (x : Claims). x.blocks) c.loop-i.invariant.2.claims), omega arith)
-
-pub loop-i-init : goal.loop-i-init
-loop-i-init g c =
-    let h = g.D.ImageDisk.held c.args.disk.now in
-    (reached_none (reads c.args.span.block c.args.span.count) (machine_in h), refl, kept_all h)
 
 pub loop-i-preserved : goal.loop-i-preserved
 loop-i-preserved g c =
@@ -70,17 +58,14 @@ returns-in_err-read_step g c =
       kept = kept_on h j m c.loop-i.invariant.2 c.read_step.ensures.kept;
     }
 
-pub returns : goal.returns
-returns g c =
+pub returns-clause-ran : goal.returns-clause-ran
+returns-clause-ran g c =
     let b = c.args.span.block in
     let n = c.args.span.count in
     let i = c.loop-i.i in
     let h = g.D.ImageDisk.held c.args.disk.now in
     let j = g.D.ImageDisk.held c.loop-i.disk in
     let out = c.loop-i.into in
-    record {
-      ran = filled (steps quiet (reads b n) (machine_in h)) (Ok tt) (take (512 * i) out) (machine_in j) c.args.into.now out
-          (reached_all (reads b n) (machine_in h) i (take (512 * i) out) (machine_in j) c.loop-i.invariant.0 (omega (arith, length_reads b n)))
-          (over_front (512 * i) out c.args.into.now (omega arith) c.loop-i.invariant.1);
-      kept = c.loop-i.invariant.2;
-    }
+    filled (steps quiet (reads b n) (machine_in h)) (Ok tt) (take (512 * i) out) (machine_in j) c.args.into.now out
+    (reached_all (reads b n) (machine_in h) i (take (512 * i) out) (machine_in j) c.loop-i.invariant.0 (omega (arith, length_reads b n)))
+    (over_front (512 * i) out c.args.into.now (omega arith) c.loop-i.invariant.1)

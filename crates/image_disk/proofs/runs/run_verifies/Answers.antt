@@ -1,23 +1,11 @@
 use Rattle.std.proofs.Common.{◌≡◌, ◌+◌, [], sym, ap, ◌∙◌, arith, rules, Ok}
 use Rattle.ata.specs.Machine.{End, verify_step, ends}
 use Rattle.ata.specs.Commands.{verifies}
-use Rattle.disk.specs.declared.words.Claims.{Claims}
-use Rattle.disk.proofs.Runs.{reached_none, reached_more, reached_end, reached_all}
+use Rattle.disk.proofs.Runs.{reached_more, reached_end, reached_all}
 use Rattle.disk.proofs.Transfers.{length_verifies, get_or_verifies}
 use Rattle.image_disk.specs.Held.{machine_in}
-use Rattle.image_disk.proofs.Keeps.{kept_all, kept_on}
+use Rattle.image_disk.proofs.Keeps.{kept_on}
 use Rattle.image_disk.proofs.runs.run_verifies.Goals as goal
-
-pub overflow_add-span : goal.overflow_add-span
-overflow_add-span g c = let s = g.met.D.ImageDisk.sound c.args.disk.now in omega (arith, s.small)
-
-pub verify_step-requires : goal.verify_step-requires
-verify_step-requires g c = omega (arith, ap (λ (x : Claims). x.blocks) c.loop-i.invariant.1.claims)
-
-pub loop-i-init : goal.loop-i-init
-loop-i-init g c =
-    let h = g.D.ImageDisk.held c.args.disk.now in
-    (reached_none (verifies c.args.span.block c.args.span.count) (machine_in h), kept_all h)
 
 pub loop-i-preserved : goal.loop-i-preserved
 loop-i-preserved g c =
@@ -50,11 +38,8 @@ returns-in_err-verify_step g c =
       kept = kept_on h j k c.loop-i.invariant.1 c.verify_step.ensures.kept;
     }
 
-pub returns : goal.returns
-returns g c =
+pub returns-clause-ran : goal.returns-clause-ran
+returns-clause-ran g c =
     let b = c.args.span.block in
     let n = c.args.span.count in
-    record {
-      ran = reached_all (verifies b n) (machine_in (g.D.ImageDisk.held c.args.disk.now)) c.loop-i.i [] (machine_in (g.D.ImageDisk.held c.loop-i.disk)) c.loop-i.invariant.0 (omega (arith, length_verifies b n));
-      kept = c.loop-i.invariant.1;
-    }
+    reached_all (verifies b n) (machine_in (g.D.ImageDisk.held c.args.disk.now)) c.loop-i.i [] (machine_in (g.D.ImageDisk.held c.loop-i.disk)) c.loop-i.invariant.0 (omega (arith, length_verifies b n))

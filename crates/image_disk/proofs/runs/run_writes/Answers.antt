@@ -1,27 +1,12 @@
 use Rattle.std.proofs.Common.{◌≡◌, ℕ, ◌+◌, ◌-◌, ◌*◌, [], take, drop, sym, refl, ap, ◌∙◌, arith, rules, Ok}
 use Rattle.ata.specs.Machine.{End, write_step, bytes, step, ends}
 use Rattle.ata.specs.Commands.{writes, blocks}
-use Rattle.disk.specs.declared.words.Claims.{Claims}
 use Rattle.disk.specs.Quiet.{still}
-use Rattle.disk.proofs.Runs.{reached_none, reached_more, reached_end, reached_all}
+use Rattle.disk.proofs.Runs.{reached_more, reached_end, reached_all}
 use Rattle.disk.proofs.Transfers.{length_writes, get_or_writes}
 use Rattle.image_disk.specs.Held.{machine_in}
-use Rattle.image_disk.proofs.Keeps.{kept_all, kept_on}
+use Rattle.image_disk.proofs.Keeps.{kept_on}
 use Rattle.image_disk.proofs.runs.run_writes.Goals as goal
-
-pub overflow_add-span : goal.overflow_add-span
-overflow_add-span g c = let s = g.met.D.ImageDisk.sound c.args.disk.now in omega (arith, s.small)
-
-pub write_step-requires-clause-within : goal.write_step-requires-clause-within
-write_step-requires-clause-within g c = omega (arith, ap (λ (x : Claims). x.blocks) c.loop-i.invariant.1.claims)
-
-pub write_step-requires-clause-lit : goal.write_step-requires-clause-lit
-write_step-requires-clause-lit g c = c.loop-i.invariant.2
-
-pub loop-i-init : goal.loop-i-init
-loop-i-init g c =
-    let h = g.D.ImageDisk.held c.args.disk.now in
-    (reached_none (writes c.args.through c.args.span.block (blocks c.args.span.count c.args.from.now)) (machine_in h), kept_all h, c.requires.lit)
 
 pub loop-i-preserved : goal.loop-i-preserved
 loop-i-preserved g c =
@@ -63,13 +48,10 @@ returns-in_err-write_step g c =
       kept = kept_on h j m c.loop-i.invariant.1 c.write_step.ensures.kept;
     }
 
-pub returns : goal.returns
-returns g c =
+pub returns-clause-ran : goal.returns-clause-ran
+returns-clause-ran g c =
     let t = c.args.through in
     let b = c.args.span.block in
     let n = c.args.span.count in
     let xs = c.args.from.now in
-    record {
-      ran = reached_all (writes t b (blocks n xs)) (machine_in (g.D.ImageDisk.held c.args.disk.now)) c.loop-i.i [] (machine_in (g.D.ImageDisk.held c.loop-i.disk)) c.loop-i.invariant.0 (omega (arith, length_writes t b n xs));
-      kept = c.loop-i.invariant.1;
-    }
+    reached_all (writes t b (blocks n xs)) (machine_in (g.D.ImageDisk.held c.args.disk.now)) c.loop-i.i [] (machine_in (g.D.ImageDisk.held c.loop-i.disk)) c.loop-i.invariant.0 (omega (arith, length_writes t b n xs))
