@@ -1,11 +1,11 @@
 -- What a cell holds, by its place and its mark, and what a write to one leaves of the others.
-use Rattle.std.proofs.Common.{◌≡◌, ℕ, ◌+◌, ◌-◌, ◌<◌, ◌≤◌, min, Bool, true, false, cond, eqb, leb, ◌⊎◌, List, [], ◌∷◌, ◌++◌, length, get_or, take, drop, set, sym, refl, ap, ◌∙◌, inl, inr, arith}
+use Rattle.std.proofs.Common.{◌≡◌, ℕ, ◌+◌, ◌-◌, ◌<◌, ◌≤◌, min, Bool, true, false, cond, eqb, leb, ◌⊎◌, List, [], ◌∷◌, ◌++◌, length, get_or, take, drop, set, sym, ap, ◌∙◌, inl, inr, arith}
 use borrow.Rule.Slice.PartMut.{put_mid}
 use Rattle.std.proofs.lemmas.List.{append_assoc, take_more_set, drop-drop, drop-set-lt, length-take, length-take-le, length-drop, length-append, same_lists, get_or-take, get_or-drop, get_or_append_left, get_or-append_right, get_or_at, drop_at, take_at}
 use Rattle.std.proofs.lemmas.Bool.Decides.{leb_tells}
 use Rattle.ata.specs.Machine.{unreadable, bytes}
 use Rattle.ata.specs.Commands.{Sector}
-use Rattle.disk.specs.Cells.{marked, inside, cell_at, readable, with_cell}
+use Rattle.disk.specs.Cells.{marked, inside, cell_at, with_cell}
 
 pub cell_outside : (image : List ℕ) (at : ℕ) → inside image at ≡ false → cell_at image at ≡ unreadable
 unfolding cell_at
@@ -16,18 +16,6 @@ unfolding cell_at
 cell_inside image at v h m =
     ap (λ (w : Bool). cond w (marked (get_or image at 0) (take 512 (drop (at + 1) image))) unreadable) h
     ∙ ap (λ (w : Bool). cond w (bytes (take 512 (drop (at + 1) image))) unreadable) m
-
-pub readable_outside : (image : List ℕ) (at : ℕ) → inside image at ≡ false → readable (cell_at image at) ≡ false
-readable_outside image at h = ap readable (cell_outside image at h)
-
-pub readable_inside : (image : List ℕ) (at : ℕ) → inside image at ≡ true → readable (cell_at image at) ≡ eqb (get_or image at 0) 0
-readable_inside image at h =
-    ap readable (cell_inside image at (eqb (get_or image at 0) 0) h refl)
-    ∙ by (eqb (get_or image at 0) 0)
-  where
-    by : (v : Bool) → readable (cond v (bytes (take 512 (drop (at + 1) image))) unreadable) ≡ v
-    by true = refl
-    by false = refl
 
 pub inside_true : (image : List ℕ) (at : ℕ) → at + 513 ≤ length image → inside image at ≡ true
 inside_true image at h = elim (leb_tells (at + 513) (length image)) [ inl t ↦ t.0 | inr t ↦ absurd (omega arith) ]

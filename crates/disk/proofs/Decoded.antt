@@ -1,8 +1,7 @@
 -- The words of a disk say what it claims.
-use Rattle.std.proofs.Common.{◌≡◌, ℕ, ◌+◌, ◌*◌, ◌^◌, ◌<◌, Bool, true, false, cond, not, ◌&&◌, eqb, List, length, set, sym, refl, ap, ◌∙◌, arith}
+use Rattle.std.proofs.Common.{◌≡◌, ℕ, ◌+◌, ◌*◌, ◌^◌, ◌<◌, Bool, true, false, cond, not, ◌&&◌, eqb, List, length, sym, refl, ap, ◌∙◌, arith}
 use lib.Bits.{bit_and}
-use Rattle.std.proofs.lemmas.List.{set-get_or}
-use Rattle.ata.specs.Words.{word, wide, cached, through, blocks_of, showing}
+use Rattle.ata.specs.Words.{word, wide, cached, through, blocks_of}
 use Rattle.disk.specs.declared.words.Claims.{Claims}
 use Rattle.ata.specs.declared.task.AtaCommand.{AtaCommand}
 use Rattle.ata.specs.declared.task.AtaCommand.TheVariants.{IdentifyDevice, ReadDma, ReadDmaExt, WriteDma, WriteDmaExt, WriteDmaFuaExt, ReadVerify, ReadVerifyExt, FlushCache, FlushCacheExt, SetFeatures, StandbyImmediate, CheckPowerMode, Unlisted}
@@ -43,11 +42,6 @@ through_for c = through_of (c.wide && c.through)
 pub cache_off_for : (c : Claims) → bit_and (word (words_for c) 85) 32 ≡ 0
 unfolding words_for
 cache_off_for c = refl
-
-pub showing_off : (c : Claims) → showing false (words_for c) ≡ words_for c
-showing_off c =
-    let e : word (words_for c) 85 + 0 ≡ word (words_for c) 85 = omega arith in
-    ap (λ (n : ℕ). set (words_for c) 85 n) e ∙ set-get_or (words_for c) 85 0
 
 short_parts : (n : ℕ) → n < 2 ^ 28 → part n 1 + 65536 * part n 65536 ≡ n
 short_parts n h = omega arith

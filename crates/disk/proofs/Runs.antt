@@ -6,9 +6,6 @@ use Rattle.ata.specs.declared.answer.Stop.TheVariants.{Unreadable, Cut}
 use Rattle.ata.specs.Machine.{Machine, Step, idle_step, Outcome, step, steps, next, ends}
 use Rattle.disk.specs.Quiet.{still, quiet, prefixed, Reached}
 
-pub reached_none : (xs : List Step) (m : Machine) → Reached xs m 0 [] m
-reached_none xs m = refl
-
 first_of : (xs : List Step) (x : Step) (i : ℕ) → i < length xs → get_or xs i idle_step ≡ x → drop i xs ≡ x ∷ drop (i + 1) xs
 first_of xs x i l f = drop_more xs i idle_step l ∙ ap (λ (y : Step). y ∷ drop (i + 1) xs) f
 
@@ -36,12 +33,3 @@ reached_end xs m i g n x z k r l f e not_done =
 pub reached_all : (xs : List Step) (m : Machine) (i : ℕ) (g : List ℕ) (n : Machine) → Reached xs m i g n → length xs ≤ i → steps quiet xs m ≡ ends (Ok tt) g n
 reached_all xs m i g n r l =
     r ∙ ap (λ (ys : List Step). prefixed g (steps quiet ys n)) (drop_all i xs l) ∙ ap (λ (ys : List ℕ). ends (Ok tt) ys n) (append-nil g)
-
--- a run of one step that gives nothing
-pub one_ends : (x : Step) (m : Machine) (z : End) (k : Machine) → step still x m ≡ ends z [] k → steps quiet (x ∷ []) m ≡ ends z [] k
-one_ends x m z k e = one_step x [] m (ends z [] k) e ∙ by z
-  where
-    by : (z : End) → next z [] k (λ n. steps quiet [] n) ≡ ends z [] k
-    by (Ok tt) = refl
-    by (Err (Unreadable b)) = refl
-    by (Err Cut) = refl

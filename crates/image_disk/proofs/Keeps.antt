@@ -3,9 +3,6 @@ use Rattle.std.proofs.Common.{◌≡◌, ℕ, List, [], refl, ◌∙◌, Ok, Err
 use Rattle.ata.specs.Machine.{End}
 use Rattle.image_disk.specs.Held.{Held, Kept, put, Untouched}
 
-pub kept_all : (h : Held) → Kept h h
-kept_all h = record { claims = refl; orders = refl }
-
 pub kept_on : (h j k : Held) → Kept h j → Kept j k → Kept h k
 kept_on h j k p q = record { claims = q.claims ∙ p.claims; orders = q.orders ∙ p.orders }
 
