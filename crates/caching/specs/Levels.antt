@@ -3,6 +3,7 @@ use Rattle.std.specs.Prelude.{◌≡◌, ℕ, Bool, true, false, cond, not, ◌&
 use Rattle.std.proofs.Common.{sym, ◌∙◌, ap, arith}
 use Rattle.ata.specs.Machine.{Content}
 use Rattle.disk.specs.Powers.{lit_of}
+use Rattle.disk.specs.Cells.{contents}
 use Rattle.disk.proofs.Sets.{untruncated}
 use Rattle.caching.specs.Sides.{faces, media}
 use Rattle.caching.specs.Meaning.{image_of}
@@ -17,6 +18,11 @@ dark_waits false lit h = refl
 
 pub level_of : (d : CachingDisk) → (d.caching && lit_of d.power.supply) ≡ false → media d.blocks (image_of d) ≡ faces d.blocks (image_of d)
 level_of d h = untruncated (media d.blocks (image_of d)) (faces d.blocks (image_of d)) (d.level h)
+
+-- the cells of one side of an image, once they are as those of a first image were
+pub side_is : (offset n : ℕ) (items new slice image : List ℕ) (from : ℕ) → items ≡ new → slice ≡ image → contents 1026 offset n new ≡ contents 1026 from n slice → contents 1026 offset n items ≡ contents 1026 from n image
+side_is offset n items new slice image from e f c =
+    ap (λ (xs : List ℕ). contents 1026 offset n xs) e ∙ c ∙ ap (λ (xs : List ℕ). contents 1026 from n xs) f
 
 -- the two sides of an image after a write to block b
 pub faces_after : (n : ℕ) (items new slice image : List ℕ) (b : ℕ) (x : Content) → items ≡ new → slice ≡ image → faces n new ≡ slice_set (faces n slice) b x → faces n items ≡ slice_set (faces n image) b x

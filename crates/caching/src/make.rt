@@ -5,7 +5,7 @@ ghost use Rattle.caching.specs.Meaning.{fresh, image_of, state_of, cached_store}
 
 use crate::caching_disk::CachingDisk;
 use crate::sides::{PAIR, settled};
-use disk::{Power, whole_blocks};
+use disk::{LARGEST, Power};
 
 impl CachingDisk {
     /// A lit disk over the whole blocks of an image, with its cache on or off, that takes the write through it or not.
@@ -13,7 +13,7 @@ impl CachingDisk {
         ensures state { state_of result ≡ fresh image.items cache through }
         ensures holds { cache ≡ true → image_of result ≡ image.items }
     {
-        let blocks = whole_blocks(image.len(), PAIR);
+        let blocks = ((image.len() / PAIR) as u64).min(LARGEST);
         CachingDisk {
             image: settled(image, blocks, cache),
             blocks,

@@ -11,6 +11,9 @@ pub const BLOCK: usize = 512;
 /// The bytes of a cell.
 pub const CELL: usize = 513;
 
+/// The most blocks that 28 bits can count.
+pub const LARGEST: u64 = 268_435_455;
+
 /// Whether the cell at `at` lies wholly inside an image of `size` bytes.
 pub(crate) fn lies_inside(size: usize, at: usize) -> bool
     ensures { result ≡ nat_le (at + 513) size }

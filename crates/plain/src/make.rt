@@ -4,7 +4,7 @@ ghost use Rattle.std.specs.Prelude.{◌≡◌};
 ghost use Rattle.plain.specs.Meaning.{fresh, image_of, state_of};
 
 use crate::plain_disk::PlainDisk;
-use disk::{CELL, Power, whole_blocks};
+use disk::{CELL, LARGEST, Power};
 
 impl PlainDisk {
     /// A lit disk over the whole blocks of an image.
@@ -12,7 +12,7 @@ impl PlainDisk {
         ensures state { state_of result ≡ fresh image.items }
         ensures holds { image_of result ≡ image.items }
     {
-        let blocks = whole_blocks(image.len(), CELL);
+        let blocks = ((image.len() / CELL) as u64).min(LARGEST);
         PlainDisk {
             image,
             blocks,
