@@ -41,6 +41,7 @@ pub(crate) fn run_verifies<D: ImageDisk>(disk: &mut D, span: Span) -> Result<(),
 }
 
 /// Writes blocks from the front of `from`, on a lit disk.
+// By its place, as in a read: over `chunks_exact` the proof would have to say which block each turn of the iterator gives.
 pub(crate) fn run_writes<D: ImageDisk>(
     disk: &mut D,
     through: bool,
