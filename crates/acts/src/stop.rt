@@ -16,7 +16,7 @@ pub enum Misfit {
     NotAttached,
 }
 
-/// Either.
+/// Why a session ends: a line that makes no sense, or an act that does not fit.
 #[derive(Clone, Copy, PartialEq, Eq, Debug, Error)]
 pub enum Reason {
     #[error(transparent)]

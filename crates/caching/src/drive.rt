@@ -26,6 +26,7 @@ impl Drive for CachingDisk {
         self.power.is_lit()
     }
 
+    // Each call is that of every disk over an image. One impl for all of them is none that a crate may write of another's trait.
     fn no_data(&mut self, task: TaskFile) -> Answer {
         image_disk::no_data(self, task)
     }

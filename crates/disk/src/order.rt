@@ -12,6 +12,7 @@ use ata::{AtaCommand, Feature, TaskFile};
 use std::num::NonZeroU32;
 
 /// A command by what it does. One that moves blocks moves some.
+// `Unknown` is a case like the others, as it is in what a drive takes a task file for.
 #[derive(Clone, Copy)]
 pub enum Order {
     Identify,

@@ -24,7 +24,7 @@ pub fn command<D: Drive>(
         (λ _. Untouched unit.old (slips_of hand.old) into.old unit.new (slips_of hand.new) into.new) }
 {
     hand.make_room()?;
-    // A method that maps the slip by a closure would leave the hand after it unproved.
+    // As there, a closure that changes the hand would leave open what it did to it.
     match unit.command(cdb, out, into) {
         Err(refusal) => Ok(Err(refusal)),
         Ok(Reply::Good(tally)) => Ok(Ok(Reply::Good(tally))),

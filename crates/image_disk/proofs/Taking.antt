@@ -1,8 +1,10 @@
 -- A step once its power is asked for: with it the step is acted, without it the disk is dark.
-use Rattle.std.proofs.Common.{◌≡◌, ℕ, Bool, true, false, cond, List, [], refl, sym, ap, ◌∙◌, arith, Ok, Err}
+use Rattle.std.proofs.Common.{◌≡◌, ℕ, zero, suc, Bool, true, false, cond, List, [], refl, sym, ap, ◌∙◌, arith, Ok, Err}
 use Rattle.ata.specs.declared.answer.Stop.TheVariants.{Unreadable, Cut}
 use Rattle.ata.specs.Machine.{End, Step, read_step, verify_step, idle_step, unreadable, bytes, step, act, ends}
-use Rattle.disk.specs.Powers.{left_of, lasts, spent}
+use Rattle.disk.specs.declared.power.Supply.{Supply}
+use Rattle.disk.specs.declared.power.Supply.TheVariants.{Lasting, Steps, Gone}
+use Rattle.disk.specs.Powers.{lit_of, left_of, lasts, stepped, spent}
 use Rattle.disk.specs.Quiet.{still}
 use Rattle.disk.proofs.Acts.{read_done, read_stopped, verify_done, verify_stopped}
 use Rattle.disk.proofs.Steps.{step_lasts, step_fails}
@@ -34,6 +36,16 @@ stops h k x z r e w =
     e ∙ ap (λ (v : Bool). record { claims = h.claims; store = cond v h.store (faded h.store); power = spent h.power }) f in
     step_fails h.store h.power x f
     ∙ (λ i. ends (sym cut i) [] (machine_in (sym is i)))
+
+-- a disk that had power for a step is lit
+pub lit_with_power : (h k : Held) → had_power h ≡ Ok tt → k ≡ power_taken h → lit_of k.power.supply ≡ true
+lit_with_power h k w e = ap (λ (j : Held). lit_of j.power.supply) e ∙ by h.power.supply (there_was (lasts h.power.supply) w)
+  where
+    by : (l : Supply) → lasts l ≡ true → lit_of (stepped l) ≡ true
+    by Lasting t = refl
+    by (Steps zero) t = let z : ◌≡◌ {A = ℕ} 0 1 = cc in absurd (omega arith)
+    by (Steps (suc n)) t = refl
+    by Gone t = let z : ◌≡◌ {A = ℕ} 0 1 = cc in absurd (omega arith)
 
 -- a block that can be read, and one that cannot and is counted
 pub block_read : (k : Held) (b : ℕ) (xs : List ℕ) → block_in k b ≡ bytes xs → act (read_step b) (left_of k.power.supply) (machine_in k) ≡ ends (Ok tt) xs (machine_in k)

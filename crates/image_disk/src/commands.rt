@@ -26,6 +26,7 @@ pub(crate) fn ignore<D: ImageDisk>(disk: &mut D) -> Answer
     answer_for(Err(Stop::Cut))
 }
 
+// A read, a write and a look at blocks differ in the run that follows once the command is admitted.
 /// Reads blocks into the front of `into`.
 pub(crate) fn read<D: ImageDisk>(disk: &mut D, span: Span, into: &mut [u8]) -> Answer
     ensures { gives result (state_in D.MOST (D.held disk.new)) into.new ≡ obeys quiet (state_in D.MOST (D.held disk.old)) span.block (fetches into.old) (Reading span.count) }
@@ -37,9 +38,8 @@ pub(crate) fn read<D: ImageDisk>(disk: &mut D, span: Span, into: &mut [u8]) -> A
     }
 }
 
-/// Writes blocks from the front of `from`, to a lit disk.
+/// Writes blocks from the front of `from`.
 pub(crate) fn write<D: ImageDisk>(disk: &mut D, through: bool, span: Span, from: &[u8]) -> Answer
-    requires { lit_of (D.held disk.old).power.supply ≡ true }
     ensures { gives result (state_in D.MOST (D.held disk.new)) [] ≡ obeys quiet (state_in D.MOST (D.held disk.old)) span.block (sends from.now) (Writing through span.count) }
 {
     let short = from.len() < BLOCK * span.count as usize;

@@ -40,7 +40,7 @@ pub(crate) fn run_verifies<D: ImageDisk>(disk: &mut D, span: Span) -> Result<(),
     Ok(())
 }
 
-/// Writes blocks from the front of `from`, on a lit disk.
+/// Writes blocks from the front of `from`.
 // By its place, as in a read: over `chunks_exact` the proof would have to say which block each turn of the iterator gives.
 pub(crate) fn run_writes<D: ImageDisk>(
     disk: &mut D,
@@ -50,7 +50,6 @@ pub(crate) fn run_writes<D: ImageDisk>(
 ) -> Result<(), Stop>
     requires within { span.block + span.count ≤ (D.held disk.old).claims.blocks }
     requires sized { 512 * span.count ≤ length from.now }
-    requires lit { lit_of (D.held disk.old).power.supply ≡ true }
     ensures ran { steps quiet (writes through span.block (blocksOf span.count from.now)) (machine_in (D.held disk.old)) ≡ ends result [] (machine_in (D.held disk.new)) }
     ensures kept { Kept (D.held disk.old) (D.held disk.new) }
 {

@@ -24,6 +24,7 @@ fn span(task: TaskFile, count: NonZeroU32) -> Span
     }
 }
 
+// The four calls differ in the order that is theirs alone; each looks at power first.
 /// A command with no data.
 pub fn no_data<D: ImageDisk>(disk: &mut D, task: TaskFile) -> Answer
     ensures { Agrees (state_in D.MOST (D.held disk.old)) (exchange task nothing [] result) (state_in D.MOST (D.held disk.new)) }

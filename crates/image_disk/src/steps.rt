@@ -1,6 +1,7 @@
 //! One step of a disk, which takes one step's power.
 //!
-//! What a step keeps stands in the contract of each, since it relates the disk before it and after.
+//! What a step keeps stands in the contract of each, since it relates the disk before it and after; and that its block is one
+//! of the disk's, since that is known of a disk and a block together.
 
 ghost use Rattle.std.specs.Prelude.{◌≡◌, ◌<◌, true, [], length, Ok, Err};
 ghost use Rattle.ata.specs.Machine.{step, ends, read_step, verify_step, write_step, flush_step, cache_step, idle_step};
@@ -52,7 +53,7 @@ pub(crate) fn verify_step<D: ImageDisk>(disk: &mut D, block: u64) -> Result<(), 
     Ok(())
 }
 
-/// Writes the 512 bytes of `data` to a block of a lit disk; the block can then be read.
+/// Writes the 512 bytes of `data` to a block; the block can then be read.
 pub(crate) fn write_step<D: ImageDisk>(
     disk: &mut D,
     through: bool,
@@ -61,9 +62,7 @@ pub(crate) fn write_step<D: ImageDisk>(
 ) -> Result<(), Stop>
     requires within { block < (D.held disk.old).claims.blocks }
     requires sized { length «data».now ≡ 512 }
-    requires lit { lit_of (D.held disk.old).power.supply ≡ true }
     ensures stepped { step still (write_step through block (holding «data».now)) (machine_in (D.held disk.old)) ≡ ends result [] (machine_in (D.held disk.new)) }
-    ensures lit { result ≡ Ok tt → lit_of (D.held disk.new).power.supply ≡ true }
     ensures kept { Kept (D.held disk.old) (D.held disk.new) }
 {
     disk.take_power()?;

@@ -58,6 +58,6 @@ impl ImageDisk for PlainDisk {
     /// Nothing waits.
     fn flush(&mut self) {}
 
-    /// Off is how it is.
+    /// There is no cache, which is to say that it is always off.
     fn switch(&mut self, _on: bool) {}
 }

@@ -5,6 +5,7 @@ ghost use Rattle.script.specs.Digits.{hex_digit, byte_of, base_of, digits_of, Re
 
 use acts::Wrong;
 
+// The library has it of a `char` and of any base; here it is a byte's, in one table.
 fn hex_digit(c: u8) -> Option<u8>
     ensures { result ≡ hex_digit c }
 {

@@ -74,6 +74,7 @@ fn behind<D: Drive>(
 
 impl fmt::Display for Disk {
     fn fmt<W: fmt::Write>(&self, f: &mut fmt::Formatter<W>) -> fmt::Result {
+        // What is asked of a disk stands once for each kind, and the words once for all.
         let (kind, blocks, errors, orders) = match self {
             Disk::Plain(disk) => ("plain", disk.blocks(), disk.errors(), disk.orders()),
             Disk::Caching(disk) => ("caching", disk.blocks(), disk.errors(), disk.orders()),

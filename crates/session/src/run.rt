@@ -1,5 +1,7 @@
 //! A whole session: what it prints on, what it has come to, and the acts between units.
 
+ghost use Rattle.std.specs.Prelude.{◌≡◌, false};
+
 use crate::bay::Disk;
 use crate::counts::Counts;
 use acts::{Act, DiskPlan, Line, Misfit};
@@ -10,19 +12,22 @@ pub struct Session<'a> {
     pub rt: &'a HostRuntime,
     pub counts: Counts,
     pub attached: bool,
-    hand: Option<Hand>,
+    hand: Option<AtHand>,
 }
 
 /// A disk at hand, whether it is still to be in the bay, and the limit of the port before it.
 #[derive(Drop)]
-struct Hand {
+struct AtHand {
     disk: Disk,
     fresh: bool,
     port: Option<u32>,
 }
 
 impl<'a> Session<'a> {
-    pub fn new(rt: &'a HostRuntime) -> Session<'a> {
+    pub fn new(rt: &'a HostRuntime) -> Session<'a>
+        ensures counts { result.counts ≡ record { acts = 0; good = 0; check = 0; refused = 0; commands = 0 } }
+        ensures attached { result.attached ≡ false }
+    {
         Session {
             rt,
             counts: Counts::default(),
@@ -54,12 +59,12 @@ impl Session<'_> {
 
     // Makes a disk. One that was in the bay before gives way to it.
     fn make_disk(&mut self, line: &Line, plan: &DiskPlan) -> anyhow::Result<()> {
-        if let Some(Hand { fresh: true, .. }) = &self.hand {
+        if let Some(AtHand { fresh: true, .. }) = &self.hand {
             return Err(line.misfit(Misfit::SecondDisk).into());
         }
         let disk = Disk::make(self.rt.alloc(), plan)?;
         println!(self.rt; "    {disk}")?;
-        self.hand = Some(Hand {
+        self.hand = Some(AtHand {
             disk,
             fresh: true,
             port: None,
@@ -80,7 +85,7 @@ impl Session<'_> {
     // Puts the disk into the bay for the acts.
     fn attach(&mut self, line: &Line, acts: &[Line]) -> anyhow::Result<()> {
         let Some(
-            Hand {
+            AtHand {
                 disk,
                 fresh: _,
                 port,
@@ -93,7 +98,7 @@ impl Session<'_> {
         let (disk, ended) = disk.serve(self, port, acts);
         ended?;
         println!(self.rt; "    {disk}")?;
-        self.hand = Some(Hand {
+        self.hand = Some(AtHand {
             disk,
             fresh: false,
             port,

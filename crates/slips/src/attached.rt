@@ -51,7 +51,7 @@ impl<D: Drive> Unit<D> {
         ensures numbered { Numbered self.old.issued cdb.now result self.new.issued }
     {
         let code = cdb.first().copied().unwrap_or(0);
-        // A method that maps the fault by a closure would leave the number after it unproved.
+        // With a method that maps the fault by a closure, what the closure did to the number stayed open.
         match self.inner.command(cdb, out, into)? {
             Reply::Good(tally) => Ok(Reply::Good(tally)),
             Reply::Check(fault, tally) => Ok(Reply::Check(self.hand_out(code, fault), tally)),

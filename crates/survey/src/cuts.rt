@@ -52,16 +52,20 @@ fn cut_write(rt: &HostRuntime, command: AtaCommand, steps: u32) -> anyhow::Resul
     Ok(())
 }
 
+const WRITES: [(&str, AtaCommand); 2] = [
+    (
+        "caching disk, 5 blocks written over, through the cache, and looked at after the return of power",
+        AtaCommand::WriteDmaFuaExt,
+    ),
+    ("the same into the cache", AtaCommand::WriteDmaExt),
+];
+
 pub fn cut_writes(rt: &HostRuntime) -> anyhow::Result<()> {
-    println!(rt;
-        "caching disk, 5 blocks written over, through the cache, and looked at after the return of power"
-    )?;
-    for steps in 0..6 {
-        cut_write(rt, AtaCommand::WriteDmaFuaExt, steps)?;
-    }
-    println!(rt; "the same into the cache")?;
-    for steps in 0..6 {
-        cut_write(rt, AtaCommand::WriteDmaExt, steps)?;
+    for (title, command) in WRITES {
+        println!(rt; "{title}")?;
+        for steps in 0..6 {
+            cut_write(rt, command, steps)?;
+        }
     }
     Ok(())
 }

@@ -76,6 +76,7 @@ impl<'d, D: Drive> Conversation<'d, D> {
         ensures commands { self.new.tally.commands ≤ self.old.tally.commands + (T.outline «data».old).bytes / 512 }
     {
         let count = data.len() / 512;
+        // A piece's place is told by its first block, in the data as on the drive.
         for done in (0..count).step_by(size.blocks) {
             let piece = Piece {
                 block: start.value() + done as u64,

@@ -19,5 +19,5 @@ pub use counts::Tally;
 pub use faults::{Fault, Place};
 pub use orders::order;
 pub use reading::read;
-pub use tasks::Width;
+pub use tasks::{Width, task};
 pub use writing::{Force, write};

@@ -33,7 +33,8 @@ impl Width {
     }
 }
 
-fn task(command: AtaCommand, count: u16, block: u64) -> TaskFile
+/// The task file of a command, which names no feature.
+pub fn task(command: AtaCommand, count: u16, block: u64) -> TaskFile
     ensures { result ≡ task command count block }
 {
     TaskFile {
@@ -50,6 +51,7 @@ fn transfer_task(width: Width, command: AtaCommand, block: u64, count: usize) ->
     task(command, (count % width.count_limit()) as u16, block)
 }
 
+// The two take the parts of a piece that a task file has.
 pub(crate) fn read_task(width: Width, block: u64, count: usize) -> TaskFile
     ensures { result ≡ read_task width block count }
 {

@@ -3,9 +3,9 @@
 ghost use Rattle.std.specs.Prelude.{◌≡◌};
 ghost use Rattle.unit.specs.Attached.{Identified, Remembers};
 
-use crate::execute::plain_task;
 use crate::standing::Phase;
 use ata::{AtaCommand, Drive};
+use transfer::task;
 
 /// A unit over a drive, which it holds until it is detached.
 pub struct Unit<D> {
@@ -20,7 +20,7 @@ impl<D: Drive> Unit<D> {
         ensures remembers { Remembers result.phase (D.Drive.meaning result.drive) }
     {
         let mut words = [0u16; 256];
-        let answer = drive.words_in(plain_task(AtaCommand::IdentifyDevice), &mut words);
+        let answer = drive.words_in(task(AtaCommand::IdentifyDevice, 0, 0), &mut words);
         let phase = Phase::first(answer, &words);
         Unit { drive, phase }
     }

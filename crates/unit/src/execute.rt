@@ -8,7 +8,6 @@ ghost use Rattle.unit.specs.Capacity.{capacity_data};
 ghost use Rattle.unit.specs.Courses.{Comes, asks, calm, in_phase, course_of, force_by, power_check};
 ghost use Rattle.unit.specs.Commanded.{Commanded};
 ghost use Rattle.transfer.specs.Steps.{idle_work};
-ghost use Rattle.transfer.specs.Tasks.{task};
 ghost use Rattle.cdb.specs.Rooms.{Room};
 
 use crate::attach::Unit;
@@ -16,22 +15,10 @@ use crate::capacity::capacity_data;
 use crate::known::Facts;
 use crate::replies::Reply;
 use crate::standing::Phase;
-use ata::{AtaCommand, Drive, Feature, TaskFile};
+use ata::{AtaCommand, Drive};
 use cdb::{Command, Extent, receive};
 use sense::{Refusal, Sense};
-use transfer::{Fault, Force, Place, Tally, order, read, write};
-
-/// The task file of a command that names no blocks.
-pub(crate) fn plain_task(command: AtaCommand) -> TaskFile
-    ensures { result ≡ task command 0 0 }
-{
-    TaskFile {
-        command,
-        feature: Feature::Absent,
-        count: 0,
-        block: 0,
-    }
-}
+use transfer::{Fault, Force, Place, Tally, order, read, task, write};
 
 fn force(fua: bool, through: bool) -> Force
     ensures { result ≡ force_by fua through }
@@ -46,7 +33,7 @@ fn force(fua: bool, through: bool) -> Force
 fn test_ready<D: Drive>(drive: &mut D) -> Reply<Fault>
     ensures { (b : List ℕ) → Comes D.Drive.does (asks 0 power_check (idle_work (D.Drive.meaning drive.old).most)) drive.old b drive.new b (Ok result) }
 {
-    let (tally, verdict) = order(drive, plain_task(AtaCommand::CheckPowerMode));
+    let (tally, verdict) = order(drive, task(AtaCommand::CheckPowerMode, 0, 0));
     Reply::from_drive(tally, verdict)
 }
 
@@ -63,6 +50,7 @@ impl Facts {
         })
     }
 
+    // READ and WRITE differ in the direction, and in how a WRITE is to reach the medium.
     fn read<D: Drive>(
         &self,
         drive: &mut D,
@@ -127,6 +115,7 @@ impl<D: Drive> Unit<D> {
     }
 
     /// Carries out a command, or refuses it by number and changes nothing.
+    // The three slices are a call as the host makes it; the units above it pass them on.
     pub fn command(
         &mut self,
         cdb: &[u8],

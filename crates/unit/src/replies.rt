@@ -7,6 +7,7 @@ use sense::Sense;
 use transfer::{Fault, Place, Tally};
 
 /// GOOD, or CHECK CONDITION with what tells of its fault; either with the bytes put into data-in and the ATA commands sent.
+// No Result: a CHECK CONDITION tells its bytes and commands too.
 #[derive(Clone, Copy)]
 pub enum Reply<F> {
     Good(Tally),

@@ -42,6 +42,7 @@ fn claims(words: &[u16; 256], at: usize, bit: u16) -> bool
     words[at] & bit != 0
 }
 
+// Words, the low one first: the library puts bytes together, and no words.
 fn block_count(words: &[u16; 256]) -> u64
     ensures { result ≡ blocks_of words.now }
 {

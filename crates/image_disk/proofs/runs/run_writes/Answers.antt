@@ -23,7 +23,6 @@ loop-i-preserved g c =
           c.loop-i.invariant.0 (omega (arith, length_writes t b n xs)) (get_or_writes t b n xs i c.loop-i-test.true)
           (ap (λ (z : ℕ). step still (write_step t (b + i) (bytes (take z (drop (512 * i) xs)))) (machine_in j)) k ∙ c.in_ok-write_step.ensures.stepped),
       kept_on h j m c.loop-i.invariant.1 c.write_step.ensures.kept,
-      c.in_ok-write_step.ensures.lit refl,
     )
 
 pub returns-in_err-write_step : goal.returns-in_err-write_step
