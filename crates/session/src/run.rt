@@ -16,6 +16,7 @@ pub struct Session<'a> {
 }
 
 /// A disk at hand, whether it is still to be in the bay, and the limit of the port before it.
+// A flag: a disk that was in the bay differs in nothing else.
 #[derive(Drop)]
 struct AtHand {
     disk: Disk,
