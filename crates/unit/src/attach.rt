@@ -1,16 +1,17 @@
 //! A unit's beginning and end.
 
 ghost use Rattle.std.specs.Prelude.{◌≡◌};
-ghost use Rattle.unit.specs.Attached.{Identified, Remembers};
+ghost use Rattle.unit.specs.Attached.{Identified, Remembers, Remembers_prop};
 
 use crate::standing::Phase;
 use ata::{AtaCommand, Drive};
 use transfer::task;
 
 /// A unit over a drive, which it holds until it is detached.
-pub struct Unit<D> {
+pub struct Unit<D: Drive> {
     pub(crate) drive: D,
     pub(crate) phase: Phase,
+    ghost remembers: { Remembers phase (D.Drive.meaning drive) } by { Remembers_prop phase (D.Drive.meaning drive) },
 }
 
 impl<D: Drive> Unit<D> {
