@@ -95,5 +95,6 @@ module _ {D : Type 0} (does : D → Exchange → D → Type 0) (meaning : D → 
   remembers_words (Attention f) w k = knows_on f k w
   remembers_words (Ready f) w k = knows_on f k w
 
+  -- so a command leaves it true, by what it comes to
   pub remembers_still : (p : Phase) (c : Result Command Sense) → Room c (length out) (length b) → Remembers p (meaning d) → Comes does (in_phase p (meaning d).most out c) d b e b' r → Remembers p (meaning e)
   remembers_still p c room h came = remembers_words p (words_kept (in_phase p (meaning d).most out c) (phase_works p c room h came)) h

@@ -44,7 +44,7 @@ Remembers Unfit s = Unit {0}
 Remembers (Attention f) s = Knows f s
 Remembers (Ready f) s = Knows f s
 
--- It is three equations of plain data, so it holds in one way.
+-- What is remembered is equations of plain data, so it holds in one way.
 abbrev is_wide : Width → Bool
 is_wide Bits28 = false
 is_wide Bits48 = true

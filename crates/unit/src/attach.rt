@@ -7,7 +7,7 @@ use crate::standing::Phase;
 use ata::{AtaCommand, Drive};
 use transfer::task;
 
-/// A unit over a drive, which it holds until it is detached.
+/// A unit over a drive, which it holds until it is detached. What it remembers of the drive is true.
 pub struct Unit<D: Drive> {
     pub(crate) drive: D,
     pub(crate) phase: Phase,
