@@ -14,6 +14,9 @@ pub enum Misfit {
     Attached,
     #[error("no disk is attached")]
     NotAttached,
+    /// Any other reason, in its own words.
+    #[error("{0}")]
+    Other(&'static str),
 }
 
 /// Why a session ends: a line that makes no sense, or an act that does not fit.

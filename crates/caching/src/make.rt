@@ -1,6 +1,7 @@
-//! New disks, and the image of one that is taken apart.
+//! New disks, the image of one that is taken apart, and what can be asked of any.
 
 ghost use Rattle.std.specs.Prelude.{◌≡◌, Bool, true};
+ghost use Rattle.ata.specs.Commands.{size};
 ghost use Rattle.caching.specs.Meaning.{fresh, image_of, state_of, cached_store};
 
 use crate::caching_disk::CachingDisk;
@@ -36,5 +37,26 @@ impl CachingDisk {
             power: _,
         } = self;
         image
+    }
+
+    /// The blocks of the disk.
+    pub fn blocks(&self) -> u64
+        ensures { result ≡ size (state_of self.now) }
+    {
+        self.blocks
+    }
+
+    /// The unreadable blocks that were met, up to 2^32 - 1.
+    pub fn errors(&self) -> u32
+        ensures { result ≡ (state_of self.now).machine.errors }
+    {
+        self.power.errors
+    }
+
+    /// The commands that were taken, up to 2^64 - 1.
+    pub fn orders(&self) -> u64
+        ensures { result ≡ (state_of self.now).orders }
+    {
+        self.power.orders
     }
 }

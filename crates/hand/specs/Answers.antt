@@ -2,7 +2,6 @@
 use Rattle.std.specs.Prelude.{◌≡◌, ℕ, List, [], ◌∷◌, ◌++◌, Ok, Err, Result}
 use Rattle.ata.specs.Commands.{State}
 use Rattle.ata.specs.Exchange.{Exchange}
-use Rattle.ata.specs.declared.drive.Drive.{Ghosts}
 use Rattle.sense.specs.declared.refusal.Refusal.{Refusal}
 use Rattle.slips.specs.declared.attached.Unit.{Unit as Bay}
 use Rattle.slips.specs.declared.slips.Slip.{Slip}
@@ -24,14 +23,14 @@ handed (Ok (Good q)) = []
 handed (Ok (Check s q)) = s ∷ []
 
 -- The unit answered by its contract, and its slip, where there is one, is now the last in hand.
-pub record Answered {D : Type 0} {g : Ghosts D} (does : D → Exchange → D → Type 0) (meaning : D → State) (u : Bay D g) (ss : List Slip) (cdb out before : List ℕ) (v : Bay D g) (ss' : List Slip) (after : List ℕ) (a : Result (Reply Line) Refusal) : Type 0 where
+pub record Answered {D : Type 0} (does : D → Exchange → D → Type 0) (meaning : D → State) (u : Bay D) (ss : List Slip) (cdb out before : List ℕ) (v : Bay D) (ss' : List Slip) (after : List ℕ) (a : Result (Reply Line) Refusal) : Type 0 where
   pub reply : Result (Reply Slip) Refusal
   pub commanded : Commanded does meaning u.inner cdb out before v.inner after (inner_reply reply)
   pub numbered : Numbered u.issued cdb reply v.issued
   pub answer : a ≡ told reply
   pub hand : ss' ≡ ss ++ handed reply
 
-pub record Untouched {D : Type 0} {g : Ghosts D} (u : Bay D g) (ss : List Slip) (before : List ℕ) (v : Bay D g) (ss' : List Slip) (after : List ℕ) : Type 0 where
+pub record Untouched {D : Type 0} (u : Bay D) (ss : List Slip) (before : List ℕ) (v : Bay D) (ss' : List Slip) (after : List ℕ) : Type 0 where
   pub unit : v ≡ u
   pub hand : ss' ≡ ss
   pub data_in : after ≡ before

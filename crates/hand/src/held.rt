@@ -68,6 +68,7 @@ impl Hand {
     }
 
     /// Whether a slip of that number is in hand.
+    #[tactic(auto, using(crate::proofs::Picks::held))]
     pub fn holds(&self, number: u64) -> bool
         ensures { result ≡ is_some (picked number (slips_of self.now)) }
     {

@@ -1,6 +1,7 @@
-//! New disks, and the image of one that is taken apart.
+//! New disks, the image of one that is taken apart, and what can be asked of any.
 
 ghost use Rattle.std.specs.Prelude.{◌≡◌};
+ghost use Rattle.ata.specs.Commands.{size};
 ghost use Rattle.plain.specs.Meaning.{fresh, image_of, state_of};
 
 use crate::plain_disk::PlainDisk;
@@ -31,5 +32,26 @@ impl PlainDisk {
             power: _,
         } = self;
         image
+    }
+
+    /// The blocks of the disk.
+    pub fn blocks(&self) -> u64
+        ensures { result ≡ size (state_of self.now) }
+    {
+        self.blocks
+    }
+
+    /// The unreadable blocks that were met, up to 2^32 - 1.
+    pub fn errors(&self) -> u32
+        ensures { result ≡ (state_of self.now).machine.errors }
+    {
+        self.power.errors
+    }
+
+    /// The commands that were taken, up to 2^64 - 1.
+    pub fn orders(&self) -> u64
+        ensures { result ≡ (state_of self.now).orders }
+    {
+        self.power.orders
     }
 }

@@ -15,10 +15,9 @@ pub(crate) fn test_unit_ready(words: Words<'_>) -> Result<Call, Wrong> {
 
 /// `[show=N]`
 pub(crate) fn read_capacity(words: Words<'_>) -> Result<Call, Wrong> {
-    let heap = words.heap;
+    let cdb = Vec::from_slice(words.heap, &read_capacity_cdb())?;
     let mut extras = words.extras(|extra| matches!(extra, Extra::Show(_)))?;
     extras.into = 8;
-    let cdb = Vec::from_slice(heap, &read_capacity_cdb())?;
     Ok(extras.call(cdb))
 }
 

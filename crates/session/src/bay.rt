@@ -1,5 +1,7 @@
 //! The disks that can be put into the bay.
 
+ghost use Rattle.std.specs.Prelude.{◌+◌, ◌≤◌, length};
+
 use crate::run::Session;
 use crate::shown::Number;
 use acts::{DiskKind, DiskPlan, Line};
@@ -41,7 +43,9 @@ impl Disk {
         session: &mut Session<'_>,
         port: Option<u32>,
         acts: &[Line],
-    ) -> (Disk, anyhow::Result<()>) {
+    ) -> (Disk, anyhow::Result<()>)
+        ensures taken { session.new.counts.acts ≤ session.old.counts.acts + length acts.now }
+    {
         // The unit is over another type in each arm.
         match self {
             Disk::Plain(disk) => {
@@ -62,7 +66,9 @@ fn behind<D: Drive>(
     session: &mut Session<'_>,
     port: Option<u32>,
     acts: &[Line],
-) -> (D, anyhow::Result<()>) {
+) -> (D, anyhow::Result<()>)
+    ensures taken { session.new.counts.acts ≤ session.old.counts.acts + length acts.now }
+{
     match port {
         None => session.run_unit(drive, acts),
         Some(limit) => {

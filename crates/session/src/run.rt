@@ -1,6 +1,7 @@
 //! A whole session: what it prints on, what it has come to, and the acts between units.
 
-ghost use Rattle.std.specs.Prelude.{◌≡◌, false};
+ghost use Rattle.std.specs.Prelude.{◌≡◌, ◌+◌, ◌≤◌, false, length};
+ghost use Rattle.session.specs.Counting.{more};
 
 use crate::bay::Disk;
 use crate::counts::Counts;
@@ -40,7 +41,9 @@ impl<'a> Session<'a> {
 
 impl Session<'_> {
     /// Prints an act, and counts it.
-    pub fn announce(&mut self, line: &Line) -> anyhow::Result<()> {
+    pub fn announce(&mut self, line: &Line) -> anyhow::Result<()>
+        ensures acts { self.new.counts.acts ≡ more self.old.counts.acts 1 }
+    {
         self.counts.acts = self.counts.acts.saturating_add(1);
         println!(self.rt; "{line}")?;
         Ok(())
@@ -59,7 +62,9 @@ impl Session<'_> {
     }
 
     // Makes a disk. One that was in the bay before gives way to it.
-    fn make_disk(&mut self, line: &Line, plan: &DiskPlan) -> anyhow::Result<()> {
+    fn make_disk(&mut self, line: &Line, plan: &DiskPlan) -> anyhow::Result<()>
+        ensures counts { self.new.counts ≡ self.old.counts }
+    {
         if let Some(AtHand { fresh: true, .. }) = &self.hand {
             return Err(line.misfit(Misfit::SecondDisk).into());
         }
@@ -74,7 +79,9 @@ impl Session<'_> {
     }
 
     // Puts a port before the disk, in the place of one that was there.
-    fn put_port(&mut self, line: &Line, limit: u32) -> anyhow::Result<()> {
+    fn put_port(&mut self, line: &Line, limit: u32) -> anyhow::Result<()>
+        ensures counts { self.new.counts ≡ self.old.counts }
+    {
         match &mut self.hand {
             None => return Err(line.misfit(Misfit::NoDisk).into()),
             Some(hand) => hand.port = Some(limit),
@@ -84,7 +91,9 @@ impl Session<'_> {
     }
 
     // Puts the disk into the bay for the acts.
-    fn attach(&mut self, line: &Line, acts: &[Line]) -> anyhow::Result<()> {
+    fn attach(&mut self, line: &Line, acts: &[Line]) -> anyhow::Result<()>
+        ensures taken { self.new.counts.acts ≤ self.old.counts.acts + length acts.now }
+    {
         let Some(
             AtHand {
                 disk,
@@ -108,7 +117,9 @@ impl Session<'_> {
     }
 
     // Carries out acts that end at their first detachment, so that a unit takes all those after its attachment.
-    fn run_part(&mut self, acts: &[Line]) -> anyhow::Result<()> {
+    fn run_part(&mut self, acts: &[Line]) -> anyhow::Result<()>
+        ensures taken { self.new.counts.acts ≤ self.old.counts.acts + length acts.now }
+    {
         for (at, line) in acts.iter().enumerate() {
             self.announce(line)?;
             match &line.act {
@@ -122,7 +133,9 @@ impl Session<'_> {
     }
 
     /// Carries out the acts.
-    pub fn run(&mut self, lines: &[Line]) -> anyhow::Result<()> {
+    pub fn run(&mut self, lines: &[Line]) -> anyhow::Result<()>
+        ensures taken { self.new.counts.acts ≤ self.old.counts.acts + length lines.now }
+    {
         for part in lines.split_inclusive(|line| matches!(line.act, Act::Detach)) {
             self.run_part(part)?;
         }

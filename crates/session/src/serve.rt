@@ -1,5 +1,7 @@
 //! A unit in the bay: the acts from its attachment to its end, over any drive.
 
+ghost use Rattle.std.specs.Prelude.{◌≡◌, ◌+◌, ◌≤◌, length};
+
 use crate::rows::Rows;
 use crate::run::Session;
 use crate::shown::Shown;
@@ -9,7 +11,9 @@ use unit::Unit;
 
 impl Session<'_> {
     /// Attaches a drive, carries out the acts up to its detachment, and gives the drive back.
-    pub fn run_unit<D: Drive>(&mut self, drive: D, acts: &[Line]) -> (D, anyhow::Result<()>) {
+    pub fn run_unit<D: Drive>(&mut self, drive: D, acts: &[Line]) -> (D, anyhow::Result<()>)
+        ensures taken { self.new.counts.acts ≤ self.old.counts.acts + length acts.now }
+    {
         let mut unit = Unit::attach(drive);
         // The unit has asked the drive what it is.
         self.counts.commands = self.counts.commands.saturating_add(1);
@@ -18,7 +22,9 @@ impl Session<'_> {
         (unit.detach(), ended)
     }
 
-    fn serve<D: Drive>(&mut self, unit: &mut Unit<D>, acts: &[Line]) -> anyhow::Result<()> {
+    fn serve<D: Drive>(&mut self, unit: &mut Unit<D>, acts: &[Line]) -> anyhow::Result<()>
+        ensures taken { self.new.counts.acts ≤ self.old.counts.acts + length acts.now }
+    {
         for line in acts {
             self.announce(line)?;
             match &line.act {
@@ -33,7 +39,9 @@ impl Session<'_> {
     }
 
     // Makes a call, and prints its answer and the front of data-in.
-    fn call_unit<D: Drive>(&mut self, unit: &mut Unit<D>, call: &Call) -> anyhow::Result<()> {
+    fn call_unit<D: Drive>(&mut self, unit: &mut Unit<D>, call: &Call) -> anyhow::Result<()>
+        ensures acts { self.new.counts.acts ≡ self.old.counts.acts }
+    {
         let heap = self.rt.alloc();
         let out = vec![in heap; call.fill; call.out]?;
         let mut into = vec![in heap; 0u8; call.into]?;

@@ -12,7 +12,7 @@ use transfer::Fault;
 use unit::{Reply, Unit as Inner};
 
 /// A unit over a drive, which it holds until it is detached; `issued` is the number of its last slip.
-pub struct Unit<D: Drive> {
+pub struct Unit<D> {
     inner: Inner<D>,
     issued: u64,
 }

@@ -2,18 +2,31 @@
 use Rattle.std.proofs.Common.{◌≡◌, ℕ, ◌+◌, ◌-◌, ◌*◌, ◌<◌, ◌≤◌, min, List, [], ◌∷◌, ◌++◌, Ok, Err, refl, ap, ◌∙◌, arith}
 use Rattle.std.specs.Result.{IsErrAnd}
 use Rattle.std.proofs.lemmas.Result.{err_from_is_err_and}
-use Rattle.ata.specs.Exchange.{Exchange}
+use Rattle.ata.specs.declared.answer.Answer.{Answer}
+use Rattle.ata.specs.declared.task.TaskFile.{TaskFile}
+use Rattle.ata.specs.Commands.{nothing}
+use Rattle.ata.specs.Exchange.{Exchange, exchange}
 use Rattle.transfer.specs.declared.faults.Fault.{Fault}
 use Rattle.transfer.specs.declared.conversation.Conversation.{Conversation}
-use Rattle.transfer.specs.Talk.{Verdict, Ask}
-use Rattle.transfer.specs.Asks.{pieces}
+use Rattle.transfer.specs.Talk.{Verdict, Ask, judged}
+use Rattle.transfer.specs.Asks.{pieces, plain_ask}
 use Rattle.transfer.specs.Said.{Said}
-use Rattle.transfer.proofs.Talks.{held_none, held_then, held_passed}
+use Rattle.transfer.proofs.Talks.{held_none, held_then, held_passed, asked, held_one}
 use Rattle.transfer.proofs.Cuts.{pieces_none, pieces_more}
 
 module _ {D : Type 0} (does : D → Exchange → D → Type 0) where
   pub said_none : (c : Conversation D) (b : List ℕ) → Said does [] c b c b (Ok tt)
   said_none c b = record { drive = refl; held = held_none does c.drive.now b c.tally }
+
+  -- one command that moves no data, from what is known of it
+  pub said_plain : (t : TaskFile) (c e : Conversation D) (r : Verdict) → ((a : Answer) × does c.drive.now (exchange t nothing [] a) e.drive.now × (r ≡ judged a)) →
+      e.drive.ghost_name ≡ c.drive.ghost_name → e.tally.bytes ≡ c.tally.bytes → e.tally.commands ≡ c.tally.commands + 1 → (b : List ℕ) → Said does (plain_ask t ∷ []) c b e b r
+  said_plain t c e r x drive bytes commands b =
+      record {
+        drive = drive;
+        held = held_one does (plain_ask t) c.drive.now e.drive.now b [] [] b c.tally e.tally r
+            (asked does (plain_ask t) c.drive.now e.drive.now [] [] c.tally e.tally r x.0 x.2 x.1 (omega arith) commands) refl refl;
+      }
 
   -- one list of commands that went well, and then another
   pub said_then : (ks ls : List Ask) (c m e : Conversation D) (b mid end : List ℕ) (v r : Verdict) (u : Unit {0}) → v ≡ Ok u →

@@ -1,5 +1,5 @@
 -- What a command does to the blocks, whatever its course.
-use Rattle.std.proofs.Common.{◌≡◌, ℕ, ◌*◌, Bool, true, false, cond, List, [], ◌∷◌, length, take, Ok, Err, Result, sym, refl, ap, ◌∙◌, arith}
+use Rattle.std.proofs.Common.{◌≡◌, ℕ, ◌*◌, Bool, true, false, cond, List, [], ◌∷◌, length, take, Ok, Err, Result, sym, refl, ap, ◌∙◌, subst, arith}
 use Rattle.std.proofs.lemmas.Bool.Decides.{nat_tests}
 use Rattle.ata.specs.Words.{wide, through, blocks_of}
 use Rattle.ata.specs.Commands.{State, Formed, blocks}
@@ -21,7 +21,7 @@ use Rattle.unit.specs.declared.standing.Phase.{Phase}
 use Rattle.unit.specs.declared.standing.Phase.TheVariants.{Unfit, Attention, Ready}
 use Rattle.unit.specs.declared.replies.Reply.{Reply}
 use Rattle.unit.specs.Fitness.{InRange}
-use Rattle.unit.specs.Courses.{Course, refused, stopped, answers, asks, past, course_of, in_phase, Comes, force_by}
+use Rattle.unit.specs.Courses.{Course, refused, stopped, answers, asks, past, course_of, in_phase, Comes, calm, phase_after, force_by}
 use Rattle.cdb.specs.Rooms.{Room}
 use Rattle.unit.specs.Attached.{Knows, Remembers}
 use Rattle.unit.specs.Works.{Works, dark_state}
@@ -95,6 +95,18 @@ module _ {D : Type 0} (does : D → Exchange → D → Type 0) (meaning : D → 
   remembers_words (Attention f) w k = knows_on f k w
   remembers_words (Ready f) w k = knows_on f k w
 
-  -- so a command leaves it true, by what it comes to
-  pub remembers_still : (p : Phase) (c : Result Command Sense) → Room c (length out) (length b) → Remembers p (meaning d) → Comes does (in_phase p (meaning d).most out c) d b e b' r → Remembers p (meaning e)
-  remembers_still p c room h came = remembers_words p (words_kept (in_phase p (meaning d).most out c) (phase_works p c room h came)) h
+  remembers_calm : (p : Phase) (s : State) → Remembers p s → Remembers (calm p) s
+  remembers_calm Unfit s k = k
+  remembers_calm (Attention f) s k = k
+  remembers_calm (Ready f) s k = k
+
+  remembers_after : (k : Course) (p : Phase) (s : State) → Remembers p s → Remembers (phase_after k p) s
+  remembers_after (refused n) p s h = h
+  remembers_after (stopped at x) p s h = remembers_calm p s h
+  remembers_after (answers xs) p s h = remembers_calm p s h
+  remembers_after (asks n ks w) p s h = remembers_calm p s h
+
+  pub remembers_on : (k : Course) (p p' : Phase) → p' ≡ phase_after k p → Works k (meaning d) b (meaning e) b' r → Remembers p (meaning d) → Remembers p' (meaning e)
+  remembers_on k p p' i w h =
+      subst (λ (z : Phase). Remembers z (meaning e)) (sym i)
+      (remembers_after k p (meaning e) (remembers_words p (words_kept k w) h))

@@ -1,13 +1,10 @@
 -- How a unit begins.
-use Rattle.std.specs.Prelude.{◌≡◌, ℕ, Bool, true, false, List, replicate, Ok, Err, refl}
-use Rattle.std.specs.Coded.{Coded, Coded-set, coded_ℕ, coded_bool, code_by, Unit-prop}
+use Rattle.std.specs.Prelude.{◌≡◌, ℕ, Bool, true, false, List, replicate, Ok, Err}
 use Rattle.ata.specs.declared.answer.Answer.{Answer}
 use Rattle.ata.specs.declared.task.AtaCommand.TheVariants.{IdentifyDevice}
 use Rattle.ata.specs.Words.{wide, through}
 use Rattle.ata.specs.Commands.{State, size, fetches_words}
 use Rattle.ata.specs.Exchange.{Exchange, exchange}
-use Rattle.transfer.specs.declared.tasks.Width.{Width}
-use Rattle.transfer.specs.declared.tasks.Width.TheVariants.{Bits28, Bits48}
 use Rattle.transfer.specs.Tasks.{width_of, task}
 use Rattle.transfer.specs.Talk.{Verdict, judged}
 use Rattle.unit.specs.declared.known.Facts.{Facts}
@@ -43,28 +40,3 @@ abbrev pub Remembers : Phase → State → Type 0
 Remembers Unfit s = Unit {0}
 Remembers (Attention f) s = Knows f s
 Remembers (Ready f) s = Knows f s
-
--- What is remembered is equations of plain data, so it holds in one way.
-abbrev is_wide : Width → Bool
-is_wide Bits28 = false
-is_wide Bits48 = true
-
-back_of_wide : (w : Width) → width_of (is_wide w) ≡ w
-back_of_wide Bits28 = refl
-back_of_wide Bits48 = refl
-
-abbrev coded_width : Coded Width
-coded_width = code_by Bool coded_bool is_wide width_of back_of_wide
-
-Knows_prop : (f : Facts) (s : State) → IsProp (Knows f s)
-Knows_prop f s = λ h k i.
-    record {
-      blocks = Coded-set coded_ℕ f.blocks (size s) h.blocks k.blocks i;
-      width = Coded-set coded_width f.width (width_of (wide s.words)) h.width k.width i;
-      through = Coded-set coded_bool f.through (through s.words) h.through k.through i;
-    }
-
-pub Remembers_prop : (p : Phase) (s : State) → IsProp (Remembers p s)
-Remembers_prop Unfit s = Unit-prop
-Remembers_prop (Attention f) s = Knows_prop f s
-Remembers_prop (Ready f) s = Knows_prop f s

@@ -1,17 +1,16 @@
 //! A unit's beginning and end.
 
 ghost use Rattle.std.specs.Prelude.{◌≡◌};
-ghost use Rattle.unit.specs.Attached.{Identified, Remembers, Remembers_prop};
+ghost use Rattle.unit.specs.Attached.{Identified, Remembers};
 
 use crate::standing::Phase;
 use ata::{AtaCommand, Drive};
 use transfer::task;
 
-/// A unit over a drive, which it holds until it is detached. What it remembers of the drive is true.
-pub struct Unit<D: Drive> {
+/// A unit over a drive, which it holds until it is detached.
+pub struct Unit<D> {
     pub(crate) drive: D,
     pub(crate) phase: Phase,
-    ghost remembers: { Remembers phase (D.Drive.meaning drive) } by { Remembers_prop phase (D.Drive.meaning drive) },
 }
 
 impl<D: Drive> Unit<D> {
