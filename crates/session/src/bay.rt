@@ -8,7 +8,6 @@ use acts::{DiskKind, DiskPlan, Line};
 use ata::Drive;
 use caching::CachingDisk;
 use host::{caching_image, plain_image};
-use image_disk::ImageDisk;
 use plain::PlainDisk;
 use port::Port;
 use std::alloc::{AllocError, Global};
